@@ -7,7 +7,7 @@ use Rattle.jbig2_coder.specs.Coder.{Context, Decision, Registers, byte_at, byte_
 use Rattle.jbig2_coder.specs.declared.arithmetic_decoder.registers.BufferedRegisters.{BufferedRegisters}
 use Rattle.jbig2_coder.specs.declared.arithmetic_decoder.registers.CodeBuffer.{CodeBuffer}
 use Rattle.jbig2_coder.specs.declared.arithmetic_decoder.registers.CodeRegister.{CodeRegister}
-use Rattle.jbig2_coder.specs.inner.Ahead.{IsAhead, IsKept, Reads, seen_of, seen_registers, shift_buffer, inverted_bytes}
+use Rattle.jbig2_coder.specs.inner.Ahead.{IsAhead, IsKept, ReadsAhead, seen_of, seen_registers, shift_buffer, inverted_bytes}
 use Rattle.jbig2_coder.proofs.Choices.{byte_in-marker, byte_in-plain, byte_in-stuffed}
 use Rattle.jbig2_coder.proofs.Decisions.{decision-renorm}
 use Rattle.jbig2_coder.proofs.Renorm.{batch-room, double-room, filled-none, filled-some, renormed-enough, renormed-step}
@@ -81,7 +81,7 @@ spelled-more bytes place (suc n) =
     ∙ rw (e, parts) (omega arith)
 
 -- ---- what the buffer is seen as
-pub seen-read : (bytes : List ℕ) (ct ahead place : ℕ) (code : CodeBuffer) → Reads bytes ct ahead place code → seen_of code ≡ record { c = code.c / 2 ^ (48 - ct) * 2 ^ (16 - ct); ct = ct; place = place }
+pub seen-read : (bytes : List ℕ) (ct ahead place : ℕ) (code : CodeBuffer) → ReadsAhead bytes ct ahead place code → seen_of code ≡ record { c = code.c / 2 ^ (48 - ct) * 2 ^ (16 - ct); ct = ct; place = place }
 seen-read bytes ct ahead place code h =
     let bits : code.bits % 8 ≡ ct = omega (arith, h.bits, h.below) in
     let at : code.place - code.bits / 8 ≡ place = omega (arith, h.bits, h.below, h.read) in
@@ -89,7 +89,7 @@ seen-read bytes ct ahead place code h =
     λ i. record { c = high i; ct = bits i; place = at i }
 
 -- the first of some bytes ahead, and the others
-first-byte : (bytes : List ℕ) (m place : ℕ) (code : CodeBuffer) → Reads bytes 0 (suc m) place code
+first-byte : (bytes : List ℕ) (m place : ℕ) (code : CodeBuffer) → ReadsAhead bytes 0 (suc m) place code
     → (code.c % 2 ^ 48 ≡ (0xFF - byte_at bytes (place + 1)) * 2 ^ 40 + inverted_bytes bytes (place + 1) m * 2 ^ (48 - code.bits)) × (inverted_bytes bytes (place + 1) m * 2 ^ (48 - code.bits) < 2 ^ 40)
 first-byte bytes m place code h =
     let u : ℕ = 2 ^ (48 - code.bits) in
@@ -113,7 +113,7 @@ twice-unit n bits some few =
 once-small : (code : CodeBuffer) → (once code).c < 2 ^ 64
 once-small code = mod_below (2 * code.c) (2 ^ 64) (pow_pos 64)
 
-once-ahead : (bytes : List ℕ) (ct ahead place : ℕ) (code : CodeBuffer) → Reads bytes ct ahead place code → 1 ≤ code.bits → IsAhead bytes (once code)
+once-ahead : (bytes : List ℕ) (ct ahead place : ℕ) (code : CodeBuffer) → ReadsAhead bytes ct ahead place code → 1 ≤ code.bits → IsAhead bytes (once code)
 once-ahead bytes (suc t) ahead place code h some =
     let one : 47 - t ≡ 48 - suc t = omega arith in
     record {
@@ -150,7 +150,7 @@ once-ahead bytes zero (suc m) place code h some =
       };
     }
 
-once-seen : (bytes : List ℕ) (ct ahead place : ℕ) (code : CodeBuffer) → Reads bytes ct ahead place code → 1 ≤ code.bits → shift_left (byte_in_if_empty bytes (seen_of code)) ≡ seen_of (once code)
+once-seen : (bytes : List ℕ) (ct ahead place : ℕ) (code : CodeBuffer) → ReadsAhead bytes ct ahead place code → 1 ≤ code.bits → shift_left (byte_in_if_empty bytes (seen_of code)) ≡ seen_of (once code)
 unfolding shift_left once-ahead
 once-seen bytes (suc t) ahead place code h some =
     let is = seen-read bytes (suc t) ahead place code h in
@@ -230,7 +230,7 @@ renormed-shifts bytes k a code h left some few room =
 
 -- ---- bytes that come into the buffer
 -- a byte that comes in leaves the bits above it
-pub plain-fits : (bytes : List ℕ) (m place : ℕ) (code : CodeBuffer) → Reads bytes 0 m place code → code.bits ≤ 40
+pub plain-fits : (bytes : List ℕ) (m place : ℕ) (code : CodeBuffer) → ReadsAhead bytes 0 m place code → code.bits ≤ 40
     → ((code.c + (0xFF - byte_at bytes (code.place + 1)) * 2 ^ (40 - code.bits)) / 2 ^ 48 ≡ code.c / 2 ^ 48)
     × ((code.c + (0xFF - byte_at bytes (code.place + 1)) * 2 ^ (40 - code.bits)) % 2 ^ 48 ≡ (inverted_bytes bytes place m * 2 ^ 8 + (0xFF - byte_at bytes (code.place + 1))) * 2 ^ (40 - code.bits))
 plain-fits bytes m place code h room =
@@ -248,7 +248,7 @@ plain-fits bytes m place code h room =
       ap (λ (n : ℕ). n % 2 ^ 48) whole ∙ mod-mul-add (code.c / 2 ^ 48) (2 ^ 48) (inverted_bytes bytes place m * 2 ^ 8 * u + next * u) small ∙ sym parts,
     )
 
-plain-reads : (bytes : List ℕ) (ct ahead place : ℕ) (code : CodeBuffer) → Reads bytes ct ahead place code → code.bits % 8 ≡ 0 → code.bits ≤ 40 → code.place < length bytes → byte_at bytes code.place ≢ 0xFF
+plain-reads : (bytes : List ℕ) (ct ahead place : ℕ) (code : CodeBuffer) → ReadsAhead bytes ct ahead place code → code.bits % 8 ≡ 0 → code.bits ≤ 40 → code.place < length bytes → byte_at bytes code.place ≢ 0xFF
     → IsAhead bytes (record { c = code.c + (0xFF - byte_at bytes (code.place + 1)) * 2 ^ (40 - code.bits); bits = code.bits + 8; place = code.place + 1 })
 plain-reads bytes (suc t) ahead place code h whole room inside plain = absurd (omega (arith, h.bits, h.below))
 plain-reads bytes zero m place code h whole room inside plain =
@@ -277,7 +277,7 @@ pub plain-ahead : (bytes : List ℕ) (code : CodeBuffer) → IsAhead bytes code 
     → IsAhead bytes (record { c = code.c + (0xFF - byte_at bytes (code.place + 1)) * 2 ^ (40 - code.bits); bits = code.bits + 8; place = code.place + 1 })
 plain-ahead bytes code h whole room inside plain = plain-reads bytes h.ct h.ahead h.place code h.reads whole room inside plain
 
-plain-same : (bytes : List ℕ) (ct ahead place : ℕ) (code : CodeBuffer) → Reads bytes ct ahead place code → code.bits % 8 ≡ 0 → code.bits ≤ 40
+plain-same : (bytes : List ℕ) (ct ahead place : ℕ) (code : CodeBuffer) → ReadsAhead bytes ct ahead place code → code.bits % 8 ≡ 0 → code.bits ≤ 40
     → seen_of (record { c = code.c + (0xFF - byte_at bytes (code.place + 1)) * 2 ^ (40 - code.bits); bits = code.bits + 8; place = code.place + 1 }) ≡ seen_of code
 plain-same bytes (suc t) ahead place code h whole room = absurd (omega (arith, h.bits, h.below))
 plain-same bytes zero m place code h whole room =
@@ -301,14 +301,14 @@ turned-fits n k small few =
     omega arith
 
 -- ---- an empty buffer
-empty-whole : (bytes : List ℕ) (ct ahead place : ℕ) (code : CodeBuffer) → Reads bytes ct ahead place code → code.bits ≡ 0 → code.c / 2 ^ 32 % 2 ^ 16 ≡ 0
+empty-whole : (bytes : List ℕ) (ct ahead place : ℕ) (code : CodeBuffer) → ReadsAhead bytes ct ahead place code → code.bits ≡ 0 → code.c / 2 ^ 32 % 2 ^ 16 ≡ 0
 empty-whole bytes (suc t) ahead place code h none = absurd (omega (arith, h.bits))
 empty-whole bytes zero (suc m) place code h none = absurd (omega (arith, h.bits))
 empty-whole bytes zero zero place code h none =
     let low : code.c % 2 ^ 48 ≡ 0 = h.spells ∙ (let z : 0 * 2 ^ (48 - code.bits) ≡ 0 = omega arith in z) in
     omega arith
 
-empty-read : (bytes : List ℕ) (ct ahead place : ℕ) (code : CodeBuffer) → Reads bytes ct ahead place code → code.bits ≡ 0 → seen_of code ≡ record { c = code.c / 2 ^ 32; ct = 0; place = code.place }
+empty-read : (bytes : List ℕ) (ct ahead place : ℕ) (code : CodeBuffer) → ReadsAhead bytes ct ahead place code → code.bits ≡ 0 → seen_of code ≡ record { c = code.c / 2 ^ 32; ct = 0; place = code.place }
 empty-read bytes (suc t) ahead place code h none = absurd (omega (arith, h.bits))
 empty-read bytes zero (suc m) place code h none = absurd (omega (arith, h.bits))
 empty-read bytes zero zero place code h none =

@@ -4,7 +4,7 @@ use Rattle.std.specs.Bool.{beq}
 use Rattle.std.proofs.lemmas.Bool.{cases_lt, cond-true, cond-false, le-leb, lt-leb, le-ltb, lt-ltb}
 use Rattle.std.proofs.lemmas.Bool.Decides.{nat_tests}
 use Rattle.std.proofs.lemmas.List.{get_or_past}
-use Rattle.jbig2_coder.specs.Table.{row_of}
+use Rattle.jbig2_coder.specs.Table.{qe_row}
 use Rattle.jbig2_coder.specs.Coder.{Context, byte_at, byte_in, choice, likely_next, unlikely_next}
 
 pub byte_at-inside : (bytes : List ℕ) (place : ℕ) → byte_at bytes place ≢ 0xFF → place < length bytes
@@ -13,33 +13,33 @@ byte_at-inside bytes place h =
     ⊎_elim (λ (l : place < length bytes). l) (λ (l : length bytes ≤ place). absurd (h (get_or_past bytes place 0xFF l))) (cases_lt place (length bytes))
 
 -- the code takes the rows from the table at its own places, so the probability is a variable here
-pub choice-quiet : (x : Context) (a c qe : ℕ) → (row_of x.row).qe ≡ qe → c / 2 ^ 16 < a - qe → 0x8000 ≤ a - qe
+pub choice-quiet : (x : Context) (a c qe : ℕ) → (qe_row x.row).qe ≡ qe → c / 2 ^ 16 < a - qe → 0x8000 ≤ a - qe
     → choice x a c ≡ record { symbol = x.likely; a = a - qe; c = c; context = x; renorm = false }
 unfolding choice
 choice-quiet x a c qe e h n = grind (arith, nat_tests)
 
-pub choice-upper_unlikely : (x : Context) (a c qe : ℕ) → (row_of x.row).qe ≡ qe → c / 2 ^ 16 < a - qe → a - qe < 0x8000 → a - qe < qe
+pub choice-upper_unlikely : (x : Context) (a c qe : ℕ) → (qe_row x.row).qe ≡ qe → c / 2 ^ 16 < a - qe → a - qe < 0x8000 → a - qe < qe
     → choice x a c ≡ record { symbol = not x.likely; a = a - qe; c = c; context = unlikely_next x; renorm = true }
 unfolding choice
 choice-upper_unlikely x a c qe e h n k = grind (arith, nat_tests)
 
-pub choice-upper_likely : (x : Context) (a c qe : ℕ) → (row_of x.row).qe ≡ qe → c / 2 ^ 16 < a - qe → a - qe < 0x8000 → qe ≤ a - qe
+pub choice-upper_likely : (x : Context) (a c qe : ℕ) → (qe_row x.row).qe ≡ qe → c / 2 ^ 16 < a - qe → a - qe < 0x8000 → qe ≤ a - qe
     → choice x a c ≡ record { symbol = x.likely; a = a - qe; c = c; context = likely_next x; renorm = true }
 unfolding choice
 choice-upper_likely x a c qe e h n k = grind (arith, nat_tests)
 
-pub choice-lower_likely : (x : Context) (a c qe : ℕ) → (row_of x.row).qe ≡ qe → a - qe ≤ c / 2 ^ 16 → a - qe < qe
+pub choice-lower_likely : (x : Context) (a c qe : ℕ) → (qe_row x.row).qe ≡ qe → a - qe ≤ c / 2 ^ 16 → a - qe < qe
     → choice x a c ≡ record { symbol = x.likely; a = qe; c = (c + (2 ^ 32 - (a - qe) * 2 ^ 16)) % 2 ^ 32; context = likely_next x; renorm = true }
 unfolding choice
 choice-lower_likely x a c qe e h k = grind (arith, nat_tests)
 
-pub choice-lower_unlikely : (x : Context) (a c qe : ℕ) → (row_of x.row).qe ≡ qe → a - qe ≤ c / 2 ^ 16 → qe ≤ a - qe
+pub choice-lower_unlikely : (x : Context) (a c qe : ℕ) → (qe_row x.row).qe ≡ qe → a - qe ≤ c / 2 ^ 16 → qe ≤ a - qe
     → choice x a c ≡ record { symbol = not x.likely; a = qe; c = (c + (2 ^ 32 - (a - qe) * 2 ^ 16)) % 2 ^ 32; context = unlikely_next x; renorm = true }
 unfolding choice
 choice-lower_unlikely x a c qe e h k = grind (arith, nat_tests)
 
 -- the four together: whether the lower part of the interval is taken, and whether that is the unlikely symbol's
-pub choice-renorm : (x y : Context) (a c qe size below : ℕ) (symbol : Bool) → (row_of x.row).qe ≡ qe → c < 2 ^ 32 → a < 0x10000
+pub choice-renorm : (x y : Context) (a c qe size below : ℕ) (symbol : Bool) → (qe_row x.row).qe ≡ qe → c < 2 ^ 32 → a < 0x10000
     → (c / 2 ^ 16 < a - qe → a - qe < 0x8000)
     → (c / 2 ^ 16 < a - qe → size ≡ a - qe) → (a - qe ≤ c / 2 ^ 16 → size ≡ qe)
     → (c / 2 ^ 16 < a - qe → below ≡ 0) → (a - qe ≤ c / 2 ^ 16 → below ≡ (a - qe) * 2 ^ 16 % 2 ^ 32)
@@ -76,7 +76,7 @@ choice-renorm x y a c qe size below symbol e small short half upper_size lower_s
     (cases_lt (c / 2 ^ 16) (a - qe))
 
 -- the same, by what the less likely symbol leaves of A and by the upper half of C
-pub choice-part : (x y : Context) (rest qe high size below c : ℕ) (symbol : Bool) → (row_of x.row).qe ≡ qe → c < 2 ^ 32 → c / 2 ^ 16 ≡ high → rest + qe < 0x10000
+pub choice-part : (x y : Context) (rest qe high size below c : ℕ) (symbol : Bool) → (qe_row x.row).qe ≡ qe → c < 2 ^ 32 → c / 2 ^ 16 ≡ high → rest + qe < 0x10000
     → (high < rest → rest < 0x8000) → (high < rest → size ≡ rest) → (rest ≤ high → size ≡ qe) → (high < rest → below ≡ 0) → (rest ≤ high → below ≡ rest)
     → y ≡ cond (not (beq (leb rest high) (ltb rest qe))) (unlikely_next x) (likely_next x)
     → symbol ≡ cond (not (beq (leb rest high) (ltb rest qe))) (not x.likely) x.likely

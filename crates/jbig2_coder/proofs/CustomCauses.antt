@@ -13,7 +13,7 @@ use Rattle.jbig2_base.specs.Causes.{HasCauseOrNoMemory}
 use Rattle.jbig2_base.proofs.Causes.{cause-next, same-ok, went}
 use Rattle.jbig2_base.proofs.ReaderLemmas.{bits_on-enough}
 use Rattle.jbig2_coder.specs.Causes.{BreaksCustom, BreaksLines, BreaksSomeLine, LeavesWord}
-use Rattle.jbig2_coder.specs.CustomTable.{GivesAt, Step, concat, custom_header, custom_line, custom_lines, custom_table, end_lines, field, left_at, next_low, range_lines, range_lines_in}
+use Rattle.jbig2_coder.specs.CustomTable.{GivesAt, TableStep, concat, custom_header, custom_line, custom_lines, custom_table, end_lines, field, left_at, next_low, range_lines, range_lines_in}
 use Rattle.jbig2_coder.specs.inner.CodeReadings.{last_line}
 use Rattle.jbig2_coder.specs.PrefixCode.{Member, front_number, in_word, table_of}
 use Rattle.jbig2_coder.specs.Tables.{lower, out_of_band, upper}
@@ -41,10 +41,10 @@ BreaksEndLines h p = length (bits_left p) < cond h.has_out_of_band 3 2 * h.prefi
 
 -- ---- steps
 -- a step that returns well, or refuses with such an error
-abbrev CauseAt : {A : Type 0} → (DecodeError → Type 0) → Step A → Type 0
+abbrev CauseAt : {A : Type 0} → (DecodeError → Type 0) → TableStep A → Type 0
 CauseAt P s = IfErr s (λ refusal. P refusal.0)
 
-cause-on : {A B : Type 0} (P : DecodeError → Type 0) (s : Step A) (next : A × Place → Step B) → CauseAt P s → ((x : A × Place) → s ≡ Ok x → CauseAt P (next x)) → CauseAt P (s >>= next)
+cause-on : {A B : Type 0} (P : DecodeError → Type 0) (s : TableStep A) (next : A × Place → TableStep B) → CauseAt P s → ((x : A × Place) → s ≡ Ok x → CauseAt P (next x)) → CauseAt P (s >>= next)
 cause-on P s next first rest = cause-next (λ refusal. P refusal.0) s next first rest
 
 cause-left : {A : Type 0} (P : DecodeError → Type 0) (p : Place) (r : Result A DecodeError) → IfErr r P → CauseAt P (left_at p r)
@@ -53,7 +53,7 @@ cause-left P p (Err e) why = why
 
 left-is : {A : Type 0} (p : Place) (r : Result A DecodeError) (x : A × Place) → left_at p r ≡ Ok x → (r ≡ Ok x.0) × (p ≡ x.1)
 left-is p (Ok y) x is = let same : (y, p) ≡ x = same-ok (y, p) x is in (ap (λ (z : _ × Place). Ok z.0) same, ap (λ (z : _ × Place). z.1) same)
-left-is {A} p (Err e) x is = absurd (let never : ◌≡◌ {A = Step A} (Err (e, p)) (Ok x) = is in cc)
+left-is {A} p (Err e) x is = absurd (let never : ◌≡◌ {A = TableStep A} (Err (e, p)) (Ok x) = is in cc)
 
 cause-field : (P : DecodeError → Type 0) (e : DecodeError) (count : ℕ) (p : Place) → (length (bits_left p) < count → P e) → CauseAt P (field e count p)
 cause-field P e count p why =
@@ -158,14 +158,14 @@ line-there h low p x is =
     )
 
 -- ---- lines
-cause-after : (P : DecodeError → Type 0) (before : List TableLine) (s : Step (List TableLine)) → CauseAt P s → CauseAt P (concat before s)
+cause-after : (P : DecodeError → Type 0) (before : List TableLine) (s : TableStep (List TableLine)) → CauseAt P s → CauseAt P (concat before s)
 cause-after P before s why = cause-on P s _ why (λ lines is. tt)
 
 cause-lines : (P : DecodeError → Type 0) (n : ℕ) (h : Header) (low : ℤ) (p : Place) → (BreaksSomeLine n h low p → P (Huffman InvalidCode)) → CauseAt P (range_lines_in n h low p)
 cause-lines P zero h low p why = tt
 cause-lines P (suc n) h low p why =
-    let Q : Step (List TableLine) → Type 0 = λ s. CauseAt P s in
-    let next : (TableLine × ℤ) × Place → Step (List TableLine) = λ x. concat (x.0.0 ∷ []) (range_lines_in n h x.0.1 x.1) in
+    let Q : TableStep (List TableLine) → Type 0 = λ s. CauseAt P s in
+    let next : (TableLine × ℤ) × Place → TableStep (List TableLine) = λ x. concat (x.0.0 ∷ []) (range_lines_in n h x.0.1 x.1) in
     cond_both (int_lt low h.maximum) (custom_line h low p >>= next) (Ok ([], p)) Q
     (λ more. cause-on P (custom_line h low p) next (cause-line P h low p (λ breaks. why (more, inl breaks)))
     (λ x is.
@@ -183,7 +183,7 @@ cause-lines P (suc n) h low p why =
 -- ---- the last lines
 cause-last : (P : DecodeError → Type 0) (h : Header) (p : Place) → (h.has_out_of_band ≡ true → length (bits_left p) < h.prefix_bits → P (Huffman InvalidCode)) → CauseAt P (last_line h p)
 cause-last P h p why =
-    let Q : Step (List TableLine) → Type 0 = λ s. CauseAt P s in
+    let Q : TableStep (List TableLine) → Type 0 = λ s. CauseAt P s in
     cond_both h.has_out_of_band (field (Huffman InvalidCode) h.prefix_bits p >>= λ len. Ok (out_of_band len.0 ∷ [], len.1)) (Ok ([], p)) Q
     (λ oob. cause-on P (field (Huffman InvalidCode) h.prefix_bits p) _ (cause-field P (Huffman InvalidCode) h.prefix_bits p (λ short. why oob short)) (λ len is. tt))
     (λ none. tt)
@@ -239,4 +239,4 @@ unfolding HasCauseOrNoMemory
 custom_cause view p q (Ok x) is = tt
 custom_cause view p q (Err e) is =
     ⊎_elim {C = (e ≡ OutOfMemory) ⊎ BreaksCustom p e} (λ memory. inl memory)
-    (λ same. inr (subst (λ (s : Step (List Member)). CauseAt (BreaksCustom p) s) same (custom_causes p))) is
+    (λ same. inr (subst (λ (s : TableStep (List Member)). CauseAt (BreaksCustom p) s) same (custom_causes p))) is

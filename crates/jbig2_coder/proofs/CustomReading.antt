@@ -8,18 +8,18 @@ use Rattle.jbig2_base.specs.declared.error.DecodeError.{DecodeError}
 use Rattle.jbig2_coder.specs.declared.huffman_table.line.TableLine.{TableLine}
 use Rattle.jbig2_coder.specs.declared.huffman_table.custom.Header.{Header}
 use Rattle.jbig2_coder.specs.PrefixCode.{AreShort, table_of}
-use Rattle.jbig2_coder.specs.CustomTable.{Step, left_at, field, custom_header, custom_line, custom_lines, concat, range_lines_in, range_lines, end_lines, custom_table, GivesAt}
+use Rattle.jbig2_coder.specs.CustomTable.{TableStep, left_at, field, custom_header, custom_line, custom_lines, concat, range_lines_in, range_lines, end_lines, custom_table, GivesAt}
 use Rattle.jbig2_coder.specs.inner.CodeReadings.{last_line}
 use Rattle.jbig2_coder.specs.Tables.{lower, upper, out_of_band}
 use Rattle.jbig2_base.specs.declared.error.DecodeError.TheVariants.{Huffman, OutOfMemory}
 use Rattle.jbig2_base.specs.declared.error.HuffmanError.TheVariants.{InvalidCode}
 use Rattle.jbig2_base.specs.Bits.{Place, bits_left, bits_next, bits_on}
 
-concat-none : (s : Step (List TableLine)) → s ≡ concat [] s
+concat-none : (s : TableStep (List TableLine)) → s ≡ concat [] s
 concat-none (Ok lines) = refl
 concat-none (Err e) = refl
 
-concat-twice : (xs ys : List TableLine) (s : Step (List TableLine)) → concat xs (concat ys s) ≡ concat (xs ++ ys) s
+concat-twice : (xs ys : List TableLine) (s : TableStep (List TableLine)) → concat xs (concat ys s) ≡ concat (xs ++ ys) s
 concat-twice xs ys (Ok lines) = ap (λ (ws : List TableLine). Ok (ws, lines.1)) (sym (append_assoc xs ys lines.0))
 concat-twice xs ys (Err e) = refl
 
@@ -57,12 +57,12 @@ one_short x h zero d inside = h
 one_short x h (suc k) d inside = absurd (omega arith)
 
 -- what the lines go on with after the next one
-line-after : (h : Header) (p : Place) (low : ℤ) (items : List TableLine) (q : Place) (s : Step (TableLine × ℤ)) (reads : Reads h p low items q) → int_lt low h.maximum ≡ true → s ≡ custom_line h low q → range_lines h p ≡ concat items (s >>= λ x. concat (x.0.0 ∷ []) (range_lines_in (reads.fuel - 1) h x.0.1 x.1))
+line-after : (h : Header) (p : Place) (low : ℤ) (items : List TableLine) (q : Place) (s : TableStep (TableLine × ℤ)) (reads : Reads h p low items q) → int_lt low h.maximum ≡ true → s ≡ custom_line h low q → range_lines h p ≡ concat items (s >>= λ x. concat (x.0.0 ∷ []) (range_lines_in (reads.fuel - 1) h x.0.1 x.1))
 line-after h p low items q s reads below line =
     reads.goes
-    ∙ ap (λ (t : Step (List TableLine)). concat items t)
+    ∙ ap (λ (t : TableStep (List TableLine)). concat items t)
     (line-step reads.fuel (length (bits_left q)) h low q reads.enough below
-    ∙ ap (λ (t : Step (TableLine × ℤ)). t >>= λ x. concat (x.0.0 ∷ []) (range_lines_in (reads.fuel - 1) h x.0.1 x.1)) (sym line))
+    ∙ ap (λ (t : TableStep (TableLine × ℤ)). t >>= λ x. concat (x.0.0 ∷ []) (range_lines_in (reads.fuel - 1) h x.0.1 x.1)) (sym line))
 
 pub reads-next : (h : Header) (p : Place) (low next : ℤ) (items more : List TableLine) (x : TableLine) (q r : Place) → Reads h p low items q → int_lt low h.maximum ≡ true → Ok ((x, next), r) ≡ custom_line h low q → length (bits_left r) < length (bits_left q) → x.range_length ≤ 32 → more ≡ items ++ x ∷ [] → Reads h p next more r
 reads-next h p low next items more x q r reads below line fewer short pushed =
@@ -84,7 +84,7 @@ reads-refused h p low items e q r reads below line = line-after h p low items q 
 pub reads-all : (h : Header) (p : Place) (low : ℤ) (items : List TableLine) (q : Place) → Reads h p low items q → int_lt low h.maximum ≡ false → range_lines h p ≡ Ok (items, q)
 reads-all h p low items q reads past =
     reads.goes
-    ∙ ap (λ (s : Step (List TableLine)). concat items s) (line-end reads.fuel (length (bits_left q)) h low q reads.enough past)
+    ∙ ap (λ (s : TableStep (List TableLine)). concat items s) (line-end reads.fuel (length (bits_left q)) h low q reads.enough past)
     ∙ ap (λ (xs : List TableLine). Ok (xs, q)) (append-nil items)
 
 -- the lines after the others are short too
@@ -103,8 +103,8 @@ field-is e n v p q result place =
 -- the ends but the last one
 ends-begin : (h : Header) (p q r : Place) (below above : ℕ) → field (Huffman InvalidCode) h.prefix_bits p ≡ Ok (below, q) → field (Huffman InvalidCode) h.prefix_bits q ≡ Ok (above, r) → end_lines h p ≡ concat (lower below (h.minimum -ℤ pos 1) ∷ upper above h.maximum ∷ []) (last_line h r)
 ends-begin h p q r below above first second =
-    ap (λ (s : Step ℕ). s >>= λ b. field (Huffman InvalidCode) h.prefix_bits b.1 >>= λ a. concat (lower b.0 (h.minimum -ℤ pos 1) ∷ upper a.0 h.maximum ∷ []) (last_line h a.1)) first
-    ∙ ap (λ (s : Step ℕ). s >>= λ a. concat (lower below (h.minimum -ℤ pos 1) ∷ upper a.0 h.maximum ∷ []) (last_line h a.1)) second
+    ap (λ (s : TableStep ℕ). s >>= λ b. field (Huffman InvalidCode) h.prefix_bits b.1 >>= λ a. concat (lower b.0 (h.minimum -ℤ pos 1) ∷ upper a.0 h.maximum ∷ []) (last_line h a.1)) first
+    ∙ ap (λ (s : TableStep ℕ). s >>= λ a. concat (lower below (h.minimum -ℤ pos 1) ∷ upper a.0 h.maximum ∷ []) (last_line h a.1)) second
 
 pub ends-none : (h : Header) (p q r : Place) (below above : ℕ) (old one two : List TableLine) → Ok below ≡ some_or (Huffman InvalidCode) (bits_next h.prefix_bits (bits_left p)) → q ≡ bits_on h.prefix_bits p → Ok above ≡ some_or (Huffman InvalidCode) (bits_next h.prefix_bits (bits_left q)) → r ≡ bits_on h.prefix_bits q → one ≡ old ++ lower below (h.minimum -ℤ pos 1) ∷ [] → two ≡ one ++ upper above h.maximum ∷ [] → h.has_out_of_band ≡ false → concat old (end_lines h p) ≡ Ok (two, r)
 ends-none h p q r below above old one two first q_is second r_is pushed pushed_two none =
@@ -112,8 +112,8 @@ ends-none h p q r below above old one two first q_is second r_is pushed pushed_t
     let n = h.prefix_bits in
     let a = lower below (h.minimum -ℤ pos 1) in
     let b = upper above h.maximum in
-    ap (λ (s : Step (List TableLine)). concat old s) (ends-begin h p q r below above (field-is e n below p q first q_is) (field-is e n above q r second r_is))
-    ∙ ap (λ (s : Step (List TableLine)). concat old (concat (a ∷ b ∷ []) s)) (cond-false h.has_out_of_band (field e n r >>= λ len. Ok (out_of_band len.0 ∷ [], len.1)) (Ok ([], r)) none)
+    ap (λ (s : TableStep (List TableLine)). concat old s) (ends-begin h p q r below above (field-is e n below p q first q_is) (field-is e n above q r second r_is))
+    ∙ ap (λ (s : TableStep (List TableLine)). concat old (concat (a ∷ b ∷ []) s)) (cond-false h.has_out_of_band (field e n r >>= λ len. Ok (out_of_band len.0 ∷ [], len.1)) (Ok ([], r)) none)
     ∙ ap (λ (xs : List TableLine). Ok (xs, r)) (sym (pushed-two old one two a b pushed pushed_two))
 
 pub ends-oob : (h : Header) (p q r s : Place) (below above len : ℕ) (old one two three : List TableLine) → Ok below ≡ some_or (Huffman InvalidCode) (bits_next h.prefix_bits (bits_left p)) → q ≡ bits_on h.prefix_bits p → Ok above ≡ some_or (Huffman InvalidCode) (bits_next h.prefix_bits (bits_left q)) → r ≡ bits_on h.prefix_bits q → Ok len ≡ some_or (Huffman InvalidCode) (bits_next h.prefix_bits (bits_left r)) → s ≡ bits_on h.prefix_bits r → one ≡ old ++ lower below (h.minimum -ℤ pos 1) ∷ [] → two ≡ one ++ upper above h.maximum ∷ [] → three ≡ two ++ out_of_band len ∷ [] → h.has_out_of_band ≡ true → concat old (end_lines h p) ≡ Ok (three, s)
@@ -123,31 +123,31 @@ ends-oob h p q r s below above len old one two three first q_is second r_is thir
     let a = lower below (h.minimum -ℤ pos 1) in
     let b = upper above h.maximum in
     let o = out_of_band len in
-    ap (λ (t : Step (List TableLine)). concat old t) (ends-begin h p q r below above (field-is e n below p q first q_is) (field-is e n above q r second r_is))
-    ∙ ap (λ (t : Step (List TableLine)). concat old (concat (a ∷ b ∷ []) t))
+    ap (λ (t : TableStep (List TableLine)). concat old t) (ends-begin h p q r below above (field-is e n below p q first q_is) (field-is e n above q r second r_is))
+    ∙ ap (λ (t : TableStep (List TableLine)). concat old (concat (a ∷ b ∷ []) t))
     (cond-true h.has_out_of_band (field e n r >>= λ k. Ok (out_of_band k.0 ∷ [], k.1)) (Ok ([], r)) some
-    ∙ ap (λ (t : Step ℕ). t >>= λ k. Ok (out_of_band k.0 ∷ [], k.1)) (field-is e n len r s third s_is))
+    ∙ ap (λ (t : TableStep ℕ). t >>= λ k. Ok (out_of_band k.0 ∷ [], k.1)) (field-is e n len r s third s_is))
     ∙ ap (λ (xs : List TableLine). Ok (xs, s)) (sym (append_assoc old (a ∷ b ∷ []) (o ∷ [])))
     ∙ ap (λ (xs : List TableLine). Ok (xs ++ o ∷ [], s)) (sym (pushed-two old one two a b pushed pushed_two))
     ∙ ap (λ (xs : List TableLine). Ok (xs, s)) (sym pushed_three)
 
 -- a custom table's lines, from what its header returns
-pub lines-header : (p : Place) (s : Step Header) → s ≡ custom_header p → custom_lines p ≡ (s >>= λ header. range_lines header.0 header.1 >>= λ ranges. concat ranges.0 (end_lines header.0 ranges.1))
+pub lines-header : (p : Place) (s : TableStep Header) → s ≡ custom_header p → custom_lines p ≡ (s >>= λ header. range_lines header.0 header.1 >>= λ ranges. concat ranges.0 (end_lines header.0 ranges.1))
 unfolding custom_lines
-lines-header p s is = ap (λ (t : Step Header). t >>= λ header. range_lines header.0 header.1 >>= λ ranges. concat ranges.0 (end_lines header.0 ranges.1)) (sym is)
+lines-header p s is = ap (λ (t : TableStep Header). t >>= λ header. range_lines header.0 header.1 >>= λ ranges. concat ranges.0 (end_lines header.0 ranges.1)) (sym is)
 
 -- and from what its lines do
-pub lines-ranges : (p q : Place) (h : Header) (s : Step (List TableLine)) → Ok (h, q) ≡ custom_header p → range_lines h q ≡ s → custom_lines p ≡ (s >>= λ ranges. concat ranges.0 (end_lines h ranges.1))
+pub lines-ranges : (p q : Place) (h : Header) (s : TableStep (List TableLine)) → Ok (h, q) ≡ custom_header p → range_lines h q ≡ s → custom_lines p ≡ (s >>= λ ranges. concat ranges.0 (end_lines h ranges.1))
 lines-ranges p q h s header is =
-    lines-header p (Ok (h, q)) header ∙ ap (λ (t : Step (List TableLine)). t >>= λ ranges. concat ranges.0 (end_lines h ranges.1)) is
+    lines-header p (Ok (h, q)) header ∙ ap (λ (t : TableStep (List TableLine)). t >>= λ ranges. concat ranges.0 (end_lines h ranges.1)) is
 
 -- a custom table, from the results of its lines
-pub table-lines : (p : Place) (s : Step (List TableLine)) → custom_lines p ≡ s → custom_table p ≡ (s >>= λ lines. left_at lines.1 (table_of lines.0))
+pub table-lines : (p : Place) (s : TableStep (List TableLine)) → custom_lines p ≡ s → custom_table p ≡ (s >>= λ lines. left_at lines.1 (table_of lines.0))
 unfolding custom_table
-table-lines p s is = ap (λ (t : Step (List TableLine)). t >>= λ lines. left_at lines.1 (table_of lines.0)) is
+table-lines p s is = ap (λ (t : TableStep (List TableLine)). t >>= λ lines. left_at lines.1 (table_of lines.0)) is
 
 -- a refusal of one step is that of the whole, and so is want of memory
-pub gives-refusal : {A B : Type 0} (e : DecodeError) (q : Place) (s : Step A) (whole : Step B) → (s ≡ Err (e, q) → whole ≡ Err (e, q)) → (e ≡ OutOfMemory) ⊎ (s ≡ Err (e, q)) → (e ≡ OutOfMemory) ⊎ (whole ≡ Err (e, q))
+pub gives-refusal : {A B : Type 0} (e : DecodeError) (q : Place) (s : TableStep A) (whole : TableStep B) → (s ≡ Err (e, q) → whole ≡ Err (e, q)) → (e ≡ OutOfMemory) ⊎ (s ≡ Err (e, q)) → (e ≡ OutOfMemory) ⊎ (whole ≡ Err (e, q))
 gives-refusal e q s whole step given = ⊎_elim (λ (m : e ≡ OutOfMemory). inl m) (λ (is : s ≡ Err (e, q)). inr (step is)) given
 
 -- a result that was given, with its place

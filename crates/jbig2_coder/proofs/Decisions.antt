@@ -2,7 +2,7 @@
 use Rattle.std.proofs.Common.{◌≡◌, ℕ, ◌-◌, ◌/◌, ◌^◌, ◌<◌, ◌≤◌, Bool, true, false, List, refl, sym}
 use mir.Val.{bool_byte}
 use Rattle.jbig2_base.specs.Grid.{bit_number}
-use Rattle.jbig2_coder.specs.Table.{row_of}
+use Rattle.jbig2_coder.specs.Table.{qe_row}
 use Rattle.jbig2_coder.specs.Coder.{Context, Registers, choice, decision, renormd}
 use Rattle.jbig2_coder.proofs.Choices.{choice-quiet}
 
@@ -10,7 +10,7 @@ pub bool_byte-bit : (b : Bool) → bool_byte b ≡ bit_number b
 bool_byte-bit true = refl
 bool_byte-bit false = refl
 
-pub decision-quiet : (bytes : List ℕ) (s : Registers) (x : Context) (qe : ℕ) → (row_of x.row).qe ≡ qe
+pub decision-quiet : (bytes : List ℕ) (s : Registers) (x : Context) (qe : ℕ) → (qe_row x.row).qe ≡ qe
     → s.code.c / 2 ^ 16 < s.a - qe → 0x8000 ≤ s.a - qe
     → decision bytes s x ≡ record { symbol = x.likely; registers = record { a = s.a - qe; code = s.code }; context = x }
 unfolding decision

@@ -6,9 +6,9 @@ use Rattle.std.proofs.lemmas.Nat.{pow-add}
 use Rattle.std.proofs.lemmas.Bool.{cases_lt}
 use Rattle.std.proofs.lemmas.List.{reverse-append, reverse-reverse}
 use Rattle.std.proofs.lemmas.Bool.Decides.{nat_tests}
-use Rattle.jbig2_coder.specs.Table.{row_of}
+use Rattle.jbig2_coder.specs.Table.{qe_row}
 use Rattle.jbig2_coder.specs.Coder.{Context, likely_next, unlikely_next}
-use Rattle.jbig2_coder.specs.Encoder.{Writer, Coding, eight_bits_out, seven_bits_out, byte_out, shift_once, renorme, narrowed_likely, narrowed_unlikely, narrowed_interval, encoding, set_bits, flush_coder, is_full, with_marker}
+use Rattle.jbig2_coder.specs.Encoder.{Writer, EncoderState, eight_bits_out, seven_bits_out, byte_out, shift_once, renorme, narrowed_likely, narrowed_unlikely, narrowed_interval, encoding, set_bits, flush_coder, is_full, with_marker}
 use Rattle.jbig2_coder.specs.inner.EncoderViews.{writer_of, shifted_registers, HasRoom}
 use Rattle.jbig2_coder.specs.declared.mq.encoder.CodeRegister.{CodeRegister}
 use Rattle.jbig2_coder.specs.declared.mq.encoder.Registers.{Registers}
@@ -59,27 +59,27 @@ narrowed-unlikely x d a c e = both d x.likely e
     both false true h = refl
     both false false h = cc
 
-pub narrowed-quiet : (x : Context) (d : Bool) (a c qe : ℕ) → beq d x.likely ≡ true → (row_of x.row).qe ≡ qe → 0x8000 ≤ a - qe
+pub narrowed-quiet : (x : Context) (d : Bool) (a c qe : ℕ) → beq d x.likely ≡ true → (qe_row x.row).qe ≡ qe → 0x8000 ≤ a - qe
     → narrowed_interval x d a c ≡ record { range = a - qe; register = c + qe; context = x; renorm = false }
 unfolding narrowed_likely
 narrowed-quiet x d a c qe e q h = narrowed-likely x d a c e ∙ grind (arith, nat_tests)
 
-pub narrowed-likely_lower : (x : Context) (d : Bool) (a c qe : ℕ) → beq d x.likely ≡ true → (row_of x.row).qe ≡ qe → a - qe < 0x8000 → a - qe < qe
+pub narrowed-likely_lower : (x : Context) (d : Bool) (a c qe : ℕ) → beq d x.likely ≡ true → (qe_row x.row).qe ≡ qe → a - qe < 0x8000 → a - qe < qe
     → narrowed_interval x d a c ≡ record { range = qe; register = c; context = likely_next x; renorm = true }
 unfolding narrowed_likely
 narrowed-likely_lower x d a c qe e q h k = narrowed-likely x d a c e ∙ grind (arith, nat_tests)
 
-pub narrowed-likely_upper : (x : Context) (d : Bool) (a c qe : ℕ) → beq d x.likely ≡ true → (row_of x.row).qe ≡ qe → a - qe < 0x8000 → qe ≤ a - qe
+pub narrowed-likely_upper : (x : Context) (d : Bool) (a c qe : ℕ) → beq d x.likely ≡ true → (qe_row x.row).qe ≡ qe → a - qe < 0x8000 → qe ≤ a - qe
     → narrowed_interval x d a c ≡ record { range = a - qe; register = c + qe; context = likely_next x; renorm = true }
 unfolding narrowed_likely
 narrowed-likely_upper x d a c qe e q h k = narrowed-likely x d a c e ∙ grind (arith, nat_tests)
 
-pub narrowed-unlikely_upper : (x : Context) (d : Bool) (a c qe : ℕ) → beq d x.likely ≡ false → (row_of x.row).qe ≡ qe → a - qe < qe
+pub narrowed-unlikely_upper : (x : Context) (d : Bool) (a c qe : ℕ) → beq d x.likely ≡ false → (qe_row x.row).qe ≡ qe → a - qe < qe
     → narrowed_interval x d a c ≡ record { range = a - qe; register = c + qe; context = unlikely_next x; renorm = true }
 unfolding narrowed_unlikely
 narrowed-unlikely_upper x d a c qe e q k = narrowed-unlikely x d a c e ∙ grind (arith, nat_tests)
 
-pub narrowed-unlikely_lower : (x : Context) (d : Bool) (a c qe : ℕ) → beq d x.likely ≡ false → (row_of x.row).qe ≡ qe → qe ≤ a - qe
+pub narrowed-unlikely_lower : (x : Context) (d : Bool) (a c qe : ℕ) → beq d x.likely ≡ false → (qe_row x.row).qe ≡ qe → qe ≤ a - qe
     → narrowed_interval x d a c ≡ record { range = qe; register = c; context = unlikely_next x; renorm = true }
 unfolding narrowed_unlikely
 narrowed-unlikely_lower x d a c qe e q k = narrowed-unlikely x d a c e ∙ grind (arith, nat_tests)
@@ -146,13 +146,13 @@ shifted-fits r k few h =
     omega (arith, q, h.room)
 
 -- a decision, by what it makes of A, C and its context
-pub encoding-quiet : (s : Coding) (x y : Context) (d : Bool) (a c : ℕ)
+pub encoding-quiet : (s : EncoderState) (x y : Context) (d : Bool) (a c : ℕ)
     → narrowed_interval x d s.range s.writer.register ≡ record { range = a; register = c; context = y; renorm = false }
     → encoding x d s ≡ record { coding = record { range = a; writer = record s.writer { register = c } }; context = y }
 unfolding encoding
 encoding-quiet s x y d a c e = rw e refl
 
-pub encoding-renorm : (s : Coding) (x y : Context) (d : Bool) (a c : ℕ)
+pub encoding-renorm : (s : EncoderState) (x y : Context) (d : Bool) (a c : ℕ)
     → narrowed_interval x d s.range s.writer.register ≡ record { range = a; register = c; context = y; renorm = true }
     → encoding x d s ≡ record { coding = renorme 15 a (record s.writer { register = c }); context = y }
 unfolding encoding
@@ -182,7 +182,7 @@ shift-fits c t bound room h =
     let p : c * 2 ^ t ≤ bound * 2 ^ t = mul-le-mul_right (2 ^ t) h in
     omega (arith, p)
 
-pub flushed-code : (s : Coding) (first second : CodeRegister) (bytes more : List ℕ)
+pub flushed-code : (s : EncoderState) (first second : CodeRegister) (bytes more : List ℕ)
     → writer_of bytes first ≡ byte_out (set_bits s.range s.writer.register * 2 ^ s.writer.wait) s.writer.out
     → writer_of more second ≡ byte_out (first.c * 2 ^ first.ct) (reverse bytes)
     → reverse more ≡ (flush_coder s).out

@@ -17,7 +17,7 @@ use Rattle.jbig2_coder.specs.declared.huffman_table.first_table.FirstCode.{First
 use Rattle.jbig2_coder.specs.PrefixCode.{CodeReading, Reads}
 use Rattle.jbig2_coder.specs.inner.CodeReadings.{found_or, unknown_code, cut_off_code}
 use Rattle.jbig2_coder.specs.inner.PrefixLevels.{nodes, walk, walk_of, groups_of, AreLevels}
-use Rattle.jbig2_coder.specs.inner.FirstCodes.{Begins, AreRight, GoesOn, AreFirst, IsEntry, Enters}
+use Rattle.jbig2_coder.specs.inner.FirstCodes.{Begins, AreRight, WalksOn, AreFirst, IsEntry, Enters}
 use Rattle.jbig2_coder.proofs.PrefixReading.{get-take, group-size, level-next, child-of, turned, not_found, bits_on-add}
 
 -- ---- the codes of a level
@@ -258,7 +258,7 @@ walk-deeper (g ∷ gs) k i d (b ∷ bits) =
     cond-deeper false x y k n e = refl
 
 -- a longer code, eight bits of which are read
-pub first-longer : (lines : List TableLine) (levels : List Level) (v from : ℕ) (a : Result TableLine DecodeError) (p q r : Place) → Some v ≡ bits_next 8 (bits_left p) → v < 256 → GoesOn lines levels from → from ≤ v → v - from < nodes (groups_of lines (drop 8 levels)) → q ≡ bits_on 8 p → bits_left q ≡ drop 8 (bits_left p) → Reads q r a (walk_of lines (drop 8 levels) (v - from) (bits_left q)) → Reads p r a (walk_of lines levels 0 (bits_left p))
+pub first-longer : (lines : List TableLine) (levels : List Level) (v from : ℕ) (a : Result TableLine DecodeError) (p q r : Place) → Some v ≡ bits_next 8 (bits_left p) → v < 256 → WalksOn lines levels from → from ≤ v → v - from < nodes (groups_of lines (drop 8 levels)) → q ≡ bits_on 8 p → bits_left q ≡ drop 8 (bits_left p) → Reads q r a (walk_of lines (drop 8 levels) (v - from) (bits_left q)) → Reads p r a (walk_of lines levels 0 (bits_left p))
 first-longer lines levels v from a p q r peek small goes low high place rest read =
     let gs = groups_of lines (drop 8 levels) in
     let w : CodeReading TableLine = walk gs 0 (v - from) (bits_left q) in

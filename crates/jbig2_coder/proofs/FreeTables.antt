@@ -11,7 +11,7 @@ use Rattle.jbig2_base.specs.declared.error.HuffmanError.TheVariants.{InvalidCode
 use Rattle.jbig2_coder.specs.declared.huffman_table.line.TableLine.{TableLine}
 use Rattle.jbig2_coder.specs.PrefixCode.{Member, IsFree, is_crowded, longest, prefix_code, table_of}
 use Rattle.jbig2_coder.specs.Tables.{standard_codes, standard_tables, uniform}
-use Rattle.jbig2_coder.specs.CustomTable.{Step, custom_lines, custom_table, left_at, TablesAreFree}
+use Rattle.jbig2_coder.specs.CustomTable.{TableStep, custom_lines, custom_table, left_at, TablesAreFree}
 use Rattle.jbig2_coder.specs.inner.PrefixLevels.{groups}
 use Rattle.jbig2_coder.proofs.PrefixFree.{free-codes}
 use Rattle.jbig2_coder.proofs.PrefixKraft.{prefix_code-is}
@@ -30,7 +30,7 @@ free-left : (p : Place) (r : Result (List Member) DecodeError) → IfOk r IsFree
 free-left p (Ok table) is = is
 free-left p (Err e) is = tt
 
-free-after : (lines : Step (List TableLine)) → IfOk (lines >>= λ xs. left_at xs.1 (table_of xs.0)) (λ table. IsFree table.0)
+free-after : (lines : TableStep (List TableLine)) → IfOk (lines >>= λ xs. left_at xs.1 (table_of xs.0)) (λ table. IsFree table.0)
 free-after (Ok lines) = free-left lines.1 (table_of lines.0) (free-listed lines.0)
 free-after (Err e) = tt
 

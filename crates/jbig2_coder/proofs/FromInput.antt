@@ -9,7 +9,7 @@ use Rattle.jbig2_base.specs.declared.error.DecodeError.TheVariants.{Huffman}
 use Rattle.jbig2_base.specs.declared.error.HuffmanError.TheVariants.{InvalidCode}
 use Rattle.jbig2_base.proofs.FromInput.{FromInput, IsFromInput, from_input-if, from_input-some}
 use Rattle.jbig2_base.proofs.Causes.{cause-next}
-use Rattle.jbig2_coder.specs.CustomTable.{Step, result_of, custom_header, custom_line, custom_lines, custom_table, end_lines, field, left_at, next_low, range_lines, range_lines_in}
+use Rattle.jbig2_coder.specs.CustomTable.{TableStep, result_of, custom_header, custom_line, custom_lines, custom_table, end_lines, field, left_at, next_low, range_lines, range_lines_in}
 use Rattle.jbig2_coder.specs.inner.CodeReadings.{cut_off_code, is_decided, last_line, found_or, unknown_code, some_value, value_after, with_value}
 use Rattle.jbig2_coder.specs.PrefixCode.{CodeReading, Member, decoded_value, front_number, in_word, line_of, no_oob, read_code, table_of, value_by}
 use Rattle.jbig2_coder.specs.Tables.{next_custom}
@@ -69,10 +69,10 @@ from_input-next_custom (table ∷ others) = tt
 
 -- ---- custom tables
 -- a step that returns well, or refuses with such an error
-abbrev FromInputAt : {A : Type 0} → Step A → Type 0
+abbrev FromInputAt : {A : Type 0} → TableStep A → Type 0
 FromInputAt s = IfErr s (λ refusal. IsFromInput refusal.0)
 
-from_input-on : {A B : Type 0} (s : Step A) (next : A × Place → Step B) → FromInputAt s → ((x : A × Place) → FromInputAt (next x)) → FromInputAt (s >>= next)
+from_input-on : {A B : Type 0} (s : TableStep A) (next : A × Place → TableStep B) → FromInputAt s → ((x : A × Place) → FromInputAt (next x)) → FromInputAt (s >>= next)
 from_input-on s next first rest = cause-next (λ refusal. IsFromInput refusal.0) s next first (λ x is. rest x)
 
 from_input-left : {A : Type 0} (p : Place) (r : Result A DecodeError) → FromInput r → FromInputAt (left_at p r)
@@ -91,7 +91,7 @@ from_input-low low range = search (from_input-if, from_input-word)
 from_input-line : (h : Header) (low : ℤ) (p : Place) → FromInputAt (custom_line h low p)
 from_input-line h low p = search (from_input-on, from_input-field, from_input-left, from_input-low) depth 10
 
-from_input-one : {A : Type 0} (b : Bool) (r s : Step A) → FromInputAt r → FromInputAt s → FromInputAt (cond b r s)
+from_input-one : {A : Type 0} (b : Bool) (r s : TableStep A) → FromInputAt r → FromInputAt s → FromInputAt (cond b r s)
 from_input-one true r s at_true at_false = at_true
 from_input-one false r s at_true at_false = at_false
 
@@ -115,7 +115,7 @@ from_input-custom_lines : (p : Place) → FromInputAt (custom_lines p)
 unfolding custom_lines range_lines
 from_input-custom_lines p = search (from_input-on, from_input-custom_header, from_input-lines, from_input-end) depth 8
 
-from_input-result : {A : Type 0} (s : Step A) → FromInputAt s → FromInput (result_of s)
+from_input-result : {A : Type 0} (s : TableStep A) → FromInputAt s → FromInput (result_of s)
 from_input-result (Ok x) is = tt
 from_input-result (Err e) is = is
 

@@ -1,7 +1,7 @@
 -- The decoder reads from a list's bytes that list's decisions.
 use Rattle.std.proofs.Common.{◌≡◌, ℕ, Bool, List, [], ◌∷◌, length, map, refl, sym, ap, ◌∙◌, subst}
 use Rattle.jbig2_coder.specs.Coder.{Context, Decision, Registers, byte_at, decision, initial_registers}
-use Rattle.jbig2_coder.specs.Encoder.{Coding, initial_coding, encoding, flush_coder, with_marker, with_context, encode_from, encoded_bytes, decoded_from, read_back, DecodesBack}
+use Rattle.jbig2_coder.specs.Encoder.{EncoderState, initial_coding, encoding, flush_coder, with_marker, with_context, encode_from, encoded_bytes, decoded_from, read_back, DecodesBack}
 use Rattle.jbig2_coder.specs.inner.EncoderViews.{Contexts, all_fresh, Encoding}
 use Rattle.jbig2_coder.proofs.InverseBytes.{Valid, first}
 use Rattle.jbig2_coder.proofs.InverseShift.{KnowsAt}
@@ -14,7 +14,7 @@ use Rattle.jbig2_coder.proofs.InverseDecide.{IfResult, tell}
 use Rattle.jbig2_coder.proofs.InverseClosed.{first-closed, Closing-closed, start}
 
 -- The bytes of what is still to come of a list, and that the encoder ended with the first m.
-record Ends (f : ℕ → ℕ) (m : ℕ) (s : Coding) : Type 0 where
+record Ends (f : ℕ → ℕ) (m : ℕ) (s : EncoderState) : Type 0 where
   whole : length (flush_coder s).out ≡ m
   same : first f m ≡ (flush_coder s).out
 
@@ -30,7 +30,7 @@ unfolding decoded_from
 decoded_from-entry bytes r contexts k asked = refl
 
 -- what the end knows of the encoder after the first entry
-ends-next : (f : ℕ → ℕ) (m : ℕ) (s : Coding) (contexts : Contexts) (e : ℕ × Bool) (es : List (ℕ × Bool)) → BetweenDecisions s
+ends-next : (f : ℕ → ℕ) (m : ℕ) (s : EncoderState) (contexts : Contexts) (e : ℕ × Bool) (es : List (ℕ × Bool)) → BetweenDecisions s
     → Ends f m (encode_from s contexts (e ∷ es))
     → KnowsAt f m (encoding (contexts e.0) e.1 s).coding.range (encoding (contexts e.0) e.1 s).coding.writer
 ends-next f m s contexts e es b h =
@@ -44,7 +44,7 @@ ends-next f m s contexts e es b h =
     k.back f m g.whole g.same
 
 decodes-from : (bytes : List ℕ) (m : ℕ) → Closing (byte_at bytes) m
-    → (es : List (ℕ × Bool)) (s : Coding) (contexts : Contexts) (r : Registers)
+    → (es : List (ℕ × Bool)) (s : EncoderState) (contexts : Contexts) (r : Registers)
     → BetweenDecisions s → Together (byte_at bytes) m s r → Ends (byte_at bytes) m (encode_from s contexts es)
     → decoded_from bytes r contexts (map (λ e. e.0) es) ≡ map (λ e. e.1) es
 decodes-from bytes m closing [] s contexts r b t h = decoded_from-none bytes r contexts
@@ -82,7 +82,7 @@ decodes-some e es out bytes eo eb =
     let flush : Flush c.coding (flush_coder (encode_from c.coding (with_context all_fresh e.0 c.context) es)) =
     encode-back es c.coding (with_context all_fresh e.0 c.context) i.resting in
     let last : out ≡ (flush_coder (encode_from c.coding (with_context all_fresh e.0 c.context) es)).out =
-    eo ∙ ap (λ (s : Coding). (flush_coder s).out) (encode_from-entry initial_coding all_fresh e es) in
+    eo ∙ ap (λ (s : EncoderState). (flush_coder s).out) (encode_from-entry initial_coding all_fresh e es) in
     let closing : Closing f m =
     subst (λ (b : List ℕ). Closing (byte_at b) m) (sym eb) (Closing-closed out (subst Valid (sym last) flush.valid)) in
     let next : KnowsAt f m c.coding.range c.coding.writer = ends-next f m initial_coding all_fresh e es initial-between ends in

@@ -4,7 +4,7 @@ use Rattle.std.proofs.Math.Nat.{le_of_mul-le-mul_right}
 use Rattle.std.proofs.lemmas.Nat.{pow_pos}
 use Rattle.std.proofs.lemmas.Bool.{cases_Bool}
 use Rattle.jbig2_coder.specs.Coder.{Context, Decision, Registers, byte_at, choice, decision, renormd}
-use Rattle.jbig2_coder.specs.Encoder.{Writer, Coding, encoding, renorme}
+use Rattle.jbig2_coder.specs.Encoder.{Writer, EncoderState, encoding, renorme}
 use Rattle.jbig2_coder.specs.inner.EncoderViews.{Encoding}
 use Rattle.jbig2_coder.specs.declared.arithmetic_decoder.registers.CodeRegister.{CodeRegister}
 use Rattle.jbig2_coder.proofs.InverseByteOut.{low, time}
@@ -16,12 +16,12 @@ use Rattle.jbig2_coder.proofs.InverseRead.{Closing}
 use Rattle.jbig2_coder.proofs.InverseDraw.{FollowsAt, Follows-below, Together, together}
 
 -- the decoder's choice, before RENORMD
-record Picked (f : ℕ → ℕ) (m : ℕ) (x : Context) (d : Bool) (s : Coding) (n : Narrowing x d s.range s.writer.register) (r : CodeRegister) (v : ℕ) : Type 0 where
+record Picked (f : ℕ → ℕ) (m : ℕ) (x : Context) (d : Bool) (s : EncoderState) (n : Narrowing x d s.range s.writer.register) (r : CodeRegister) (v : ℕ) : Type 0 where
   c : ℕ
   chosen : choice x s.range r.c ≡ record { symbol = d; a = n.range; c = c; context = n.next; renorm = n.renorm }
   follows : FollowsAt f m n.range (at_part x d s n) (record r { c = c }) v
 
-pick-upper : (f : ℕ → ℕ) (m : ℕ) (x : Context) (d : Bool) (s : Coding) (n : Narrowing x d s.range s.writer.register) (r : CodeRegister) (v : ℕ)
+pick-upper : (f : ℕ → ℕ) (m : ℕ) (x : Context) (d : Bool) (s : EncoderState) (n : Narrowing x d s.range s.writer.register) (r : CodeRegister) (v : ℕ)
     → Upper x d s.range s.writer.register n.range n.register n.next n.renorm → FollowsAt f m s.range s.writer r v
     → KnowsAt f m n.range (at_part x d s n) → Picked f m x d s n r v
 pick-upper f m x d s n r v u h know =
@@ -45,7 +45,7 @@ lower-code c v p lo b u e h =
     left : (z : ℕ) → c * p ≡ (z + u * 2 ^ 16) * p → z * p + (v + 1) * 2 ^ 16 ≡ (lo + b) * p * 2 ^ 16
     left z q = omega arith
 
-pick-lower : (f : ℕ → ℕ) (m : ℕ) (x : Context) (d : Bool) (s : Coding) (n : Narrowing x d s.range s.writer.register) (r : CodeRegister) (v : ℕ)
+pick-lower : (f : ℕ → ℕ) (m : ℕ) (x : Context) (d : Bool) (s : EncoderState) (n : Narrowing x d s.range s.writer.register) (r : CodeRegister) (v : ℕ)
     → BetweenDecisions s → (l : Lower x d s.range s.writer.register n.range n.register n.next n.renorm) → FollowsAt f m s.range s.writer r v
     → KnowsAt f m n.range (at_part x d s n) → KnowsAt f m s.range s.writer → Picked f m x d s n r v
 pick-lower f m x d s n r v b l h know before =
@@ -71,7 +71,7 @@ pick-lower f m x d s n r v b l h know before =
       };
     }
 
-pick : (f : ℕ → ℕ) (m : ℕ) (x : Context) (d : Bool) (s : Coding) (n : Narrowing x d s.range s.writer.register) (r : CodeRegister) (v : ℕ)
+pick : (f : ℕ → ℕ) (m : ℕ) (x : Context) (d : Bool) (s : EncoderState) (n : Narrowing x d s.range s.writer.register) (r : CodeRegister) (v : ℕ)
     → BetweenDecisions s → FollowsAt f m s.range s.writer r v → KnowsAt f m n.range (at_part x d s n) → KnowsAt f m s.range s.writer → Picked f m x d s n r v
 pick f m x d s n r v b h know before =
     ⊎_elim
@@ -98,7 +98,7 @@ pub record IfResult (bytes : List ℕ) (m : ℕ) (d : Bool) (e : Encoding) (z : 
   pub context : z.context ≡ e.context
   pub follows : Together (byte_at bytes) m e.coding z.registers
 
-tell-quiet : (bytes : List ℕ) (m : ℕ) (x : Context) (d : Bool) (s : Coding) (n : Narrowing x d s.range s.writer.register) (r : Registers) (v : ℕ)
+tell-quiet : (bytes : List ℕ) (m : ℕ) (x : Context) (d : Bool) (s : EncoderState) (n : Narrowing x d s.range s.writer.register) (r : Registers) (v : ℕ)
     → r.a ≡ s.range → n.renorm ≡ false → Picked (byte_at bytes) m x d s n r.code v → IfResult bytes m d (encoding x d s) (decision bytes r x)
 tell-quiet bytes m x d s n r v same e p =
     let chosen : choice x r.a r.code.c ≡ record { symbol = d; a = n.range; c = p.c; context = n.next; renorm = false } =
@@ -107,7 +107,7 @@ tell-quiet bytes m x d s n r v same e p =
     (subst (IfResult bytes m d (record { coding = record { range = n.range; writer = at_part x d s n }; context = n.next })) (sym (decision-quiet_is bytes r x n.next d n.range p.c chosen))
     (record { symbol = refl; context = refl; follows = record { number = v; same = refl; follows = p.follows } }))
 
-tell-renorm : (bytes : List ℕ) (m : ℕ) (x : Context) (d : Bool) (s : Coding) (n : Narrowing x d s.range s.writer.register) (r : Registers) (v : ℕ)
+tell-renorm : (bytes : List ℕ) (m : ℕ) (x : Context) (d : Bool) (s : EncoderState) (n : Narrowing x d s.range s.writer.register) (r : Registers) (v : ℕ)
     → Closing (byte_at bytes) m → BetweenDecisions s → r.a ≡ s.range → n.renorm ≡ true → Picked (byte_at bytes) m x d s n r.code v
     → KnowsAt (byte_at bytes) m (encoding x d s).coding.range (encoding x d s).coding.writer → IfResult bytes m d (encoding x d s) (decision bytes r x)
 tell-renorm bytes m x d s n r v closing b same e p know =
@@ -124,7 +124,7 @@ tell-renorm bytes m x d s n r v closing b same e p know =
       follows = together bytes m 15 n.range w (record r.code { c = p.c }) v closing (part-bounded x d s n b) b.some (inr (n.moves e)) n.below (omega (arith, n.some)) later p.follows;
     }))
 
-pub tell : (bytes : List ℕ) (m : ℕ) (x : Context) (d : Bool) (s : Coding) (r : Registers) → Closing (byte_at bytes) m → BetweenDecisions s
+pub tell : (bytes : List ℕ) (m : ℕ) (x : Context) (d : Bool) (s : EncoderState) (r : Registers) → Closing (byte_at bytes) m → BetweenDecisions s
     → Together (byte_at bytes) m s r
     → KnowsAt (byte_at bytes) m (encoding x d s).coding.range (encoding x d s).coding.writer → IfResult bytes m d (encoding x d s) (decision bytes r x)
 tell bytes m x d s r closing b t know =

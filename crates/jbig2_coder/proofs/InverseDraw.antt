@@ -4,7 +4,7 @@ use Rattle.std.proofs.Common.{◌≡◌, ℕ, zero, suc, ◌+◌, ◌-◌, ◌*�
 use Rattle.std.proofs.Math.Nat.{pow-suc, lt_of_mul-lt-mul_right}
 use Rattle.std.proofs.lemmas.Bool.{cases_eq, cases_lt}
 use Rattle.jbig2_coder.specs.Coder.{Registers, byte_at, byte_in, byte_in_if_empty, shift_left, renormd}
-use Rattle.jbig2_coder.specs.Encoder.{Writer, Coding, shift_once, renorme}
+use Rattle.jbig2_coder.specs.Encoder.{Writer, EncoderState, shift_once, renorme}
 use Rattle.jbig2_coder.specs.declared.arithmetic_decoder.registers.CodeRegister.{CodeRegister}
 use Rattle.jbig2_coder.proofs.Encoders.{renormed-step as encoder-step, renormed-stop as encoder-stop}
 use Rattle.jbig2_coder.proofs.Renorm.{filled-some, filled-none, renormed-step, renormed-stop}
@@ -96,7 +96,7 @@ double f m a w w2 r v half some s h know =
     }
 
 -- what both have become: A is one number
-pub record Together (f : ℕ → ℕ) (m : ℕ) (s : Coding) (d : Registers) : Type 0 where
+pub record Together (f : ℕ → ℕ) (m : ℕ) (s : EncoderState) (d : Registers) : Type 0 where
   pub number : ℕ
   pub same : d.a ≡ s.range
   pub follows : FollowsAt f m s.range s.writer d.code number
@@ -105,7 +105,7 @@ together-stop : (bytes : List ℕ) (m n a : ℕ) (w : Writer) (r : CodeRegister)
     → Together (byte_at bytes) m (renorme n a w) (renormd bytes n a r)
 together-stop bytes m n a w r v h follows =
     let f : ℕ → ℕ = byte_at bytes in
-    subst (λ (s : Coding). Together f m s (renormd bytes n a r)) (sym (encoder-stop n a w h))
+    subst (λ (s : EncoderState). Together f m s (renormd bytes n a r)) (sym (encoder-stop n a w h))
     (subst (λ (d : Registers). Together f m (record { range = a; writer = w }) d) (sym (renormed-stop bytes n a r h))
     (record { number = v; same = refl; follows = follows }))
 
@@ -127,10 +127,10 @@ together bytes m (suc n) a w r v closing b some few below enough know follows =
     let more : FollowsAt f m (2 * a) (shift_once w) (shift_left (byte_in_if_empty bytes r)) next.number =
     double f m a w (shift_once w) (byte_in_if_empty bytes r) next.number half next.some s next.follows here in
     let later : KnowsAt f m (renorme n (2 * a) (shift_once w)).range (renorme n (2 * a) (shift_once w)).writer =
-    subst (λ (z : Coding). KnowsAt f m z.range z.writer) (encoder-step n a w half) know in
+    subst (λ (z : EncoderState). KnowsAt f m z.range z.writer) (encoder-step n a w half) know in
     let rest : Together f m (renorme n (2 * a) (shift_once w)) (renormd bytes n (2 * a) (shift_left (byte_in_if_empty bytes r))) =
     together bytes m n (2 * a) (shift_once w) (shift_left (byte_in_if_empty bytes r)) next.number closing s.bounded s.some (inl s.few) (omega arith) room later more in
-    subst (λ (z : Coding). Together f m z (renormd bytes (suc n) a r)) (sym (encoder-step n a w half))
+    subst (λ (z : EncoderState). Together f m z (renormd bytes (suc n) a r)) (sym (encoder-step n a w half))
     (subst (λ (z : Registers). Together f m (renorme n (2 * a) (shift_once w)) z) (sym (renormed-step bytes n a r half)) rest))
     (λ (normal : 0x8000 ≤ a). together-stop bytes m (suc n) a w r v normal follows)
     (cases_lt a 0x8000)

@@ -2,7 +2,7 @@
 use Rattle.std.proofs.Common.{◌≡◌, ℕ, ◌+◌, ◌*◌, ◌^◌, ◌<◌, ◌≤◌, Bool, true, false, List, [], ◌∷◌, refl, sym, ◌∙◌, arith, subst, ⊎_elim, ◌⊎◌, inl, inr, mul-le-mul_right}
 use Rattle.std.proofs.lemmas.Bool.{cases_Bool}
 use Rattle.jbig2_coder.specs.Coder.{Context}
-use Rattle.jbig2_coder.specs.Encoder.{Writer, Coding, initial_coding, renorme, encoding, flush_coder, with_context, encode_from}
+use Rattle.jbig2_coder.specs.Encoder.{Writer, EncoderState, initial_coding, renorme, encoding, flush_coder, with_context, encode_from}
 use Rattle.jbig2_coder.specs.inner.EncoderViews.{Contexts, Encoding}
 use Rattle.jbig2_coder.proofs.Encoders.{encoding-quiet, encoding-renorm}
 use Rattle.jbig2_coder.proofs.InverseByteOut.{low, time, Room-le, Bounded}
@@ -12,14 +12,14 @@ use Rattle.jbig2_coder.proofs.InverseNarrow.{Narrowing, narrowing}
 use Rattle.jbig2_coder.proofs.InverseFlush.{Flush, flush}
 
 -- What holds between two decisions, and before the first one too.
-pub record BetweenDecisions (s : Coding) : Type 0 where
+pub record BetweenDecisions (s : EncoderState) : Type 0 where
   pub bounded : Bounded s.range s.writer
   pub some : 1 ≤ s.writer.wait
   pub few : (s.writer.wait ≤ 11) ⊎ (s.range ≡ 0x8000)
   pub normal : 0x8000 ≤ s.range
   pub below : s.range < 0x10000
 
-pub resting-between : (s : Coding) → Resting s → BetweenDecisions s
+pub resting-between : (s : EncoderState) → Resting s → BetweenDecisions s
 resting-between s r = record { bounded = r.bounded; some = r.some; few = inl r.few; normal = r.normal; below = r.below }
 
 pub initial-between : BetweenDecisions initial_coding
@@ -34,16 +34,16 @@ initial-between =
     }
 
 -- the writer in the part of the interval that a decision takes
-abbrev pub at_part : (x : Context) (d : Bool) (s : Coding) → Narrowing x d s.range s.writer.register → Writer
+abbrev pub at_part : (x : Context) (d : Bool) (s : EncoderState) → Narrowing x d s.range s.writer.register → Writer
 at_part x d s n = record s.writer { register = n.register }
 
 -- a decision, and what the end knows of the interval after it goes back to its part, and to the one before it
-pub record Entry (x : Context) (d : Bool) (s : Coding) (n : Narrowing x d s.range s.writer.register) (t : Coding) : Type 0 where
+pub record Entry (x : Context) (d : Bool) (s : EncoderState) (n : Narrowing x d s.range s.writer.register) (t : EncoderState) : Type 0 where
   pub resting : Resting t
   pub renorm : (f : ℕ → ℕ) (m : ℕ) → KnowsAt f m t.range t.writer → KnowsAt f m n.range (at_part x d s n)
   pub narrow : (f : ℕ → ℕ) (m : ℕ) → KnowsAt f m n.range (at_part x d s n) → KnowsAt f m s.range s.writer
 
-pub part-bounded : (x : Context) (d : Bool) (s : Coding) (n : Narrowing x d s.range s.writer.register) → BetweenDecisions s → Bounded n.range (at_part x d s n)
+pub part-bounded : (x : Context) (d : Bool) (s : EncoderState) (n : Narrowing x d s.range s.writer.register) → BetweenDecisions s → Bounded n.range (at_part x d s n)
 part-bounded x d s n b =
     let h : (n.register + n.range) * 2 ^ s.writer.wait ≤ (s.writer.register + s.range) * 2 ^ s.writer.wait =
     mul-le-mul_right (2 ^ s.writer.wait) n.high in
@@ -54,14 +54,14 @@ part-bounded x d s n b =
       valid = b.bounded.valid;
     }
 
-part-back : (x : Context) (d : Bool) (s : Coding) (n : Narrowing x d s.range s.writer.register) (f : ℕ → ℕ) (m : ℕ)
+part-back : (x : Context) (d : Bool) (s : EncoderState) (n : Narrowing x d s.range s.writer.register) (f : ℕ → ℕ) (m : ℕ)
     → KnowsAt f m n.range (at_part x d s n) → KnowsAt f m s.range s.writer
 part-back x d s n f m k =
     let w : Writer = s.writer in
     Knows-wider f m (low w) (low w + s.range) (time w) (low (at_part x d s n)) (low (at_part x d s n) + n.range) w.out
     (omega (arith, n.low)) (omega (arith, n.high)) k
 
-entry-quiet : (x : Context) (d : Bool) (s : Coding) (n : Narrowing x d s.range s.writer.register) → BetweenDecisions s → n.renorm ≡ false
+entry-quiet : (x : Context) (d : Bool) (s : EncoderState) (n : Narrowing x d s.range s.writer.register) → BetweenDecisions s → n.renorm ≡ false
     → Entry x d s n (record { range = n.range; writer = at_part x d s n })
 entry-quiet x d s n b e =
     let q = n.quiet e in
@@ -71,7 +71,7 @@ entry-quiet x d s n b e =
       narrow = part-back x d s n;
     }
 
-entry-renorm : (x : Context) (d : Bool) (s : Coding) (n : Narrowing x d s.range s.writer.register) → BetweenDecisions s → n.renorm ≡ true
+entry-renorm : (x : Context) (d : Bool) (s : EncoderState) (n : Narrowing x d s.range s.writer.register) → BetweenDecisions s → n.renorm ≡ true
     → Entry x d s n (renorme 15 n.range (at_part x d s n))
 entry-renorm x d s n b e =
     let r : Renorm n.range (at_part x d s n) (renorme 15 n.range (at_part x d s n)) =
@@ -79,19 +79,19 @@ entry-renorm x d s n b e =
     record { resting = r.resting; renorm = r.back; narrow = part-back x d s n }
 
 -- what a decision makes of the encoder
-pub encoding-quiet_is : (x : Context) (d : Bool) (s : Coding) (n : Narrowing x d s.range s.writer.register) → n.renorm ≡ false
+pub encoding-quiet_is : (x : Context) (d : Bool) (s : EncoderState) (n : Narrowing x d s.range s.writer.register) → n.renorm ≡ false
     → encoding x d s ≡ record { coding = record { range = n.range; writer = at_part x d s n }; context = n.next }
 encoding-quiet_is x d s n e =
     encoding-quiet s x n.next d n.range n.register
     (n.is ∙ (λ i. record { range = n.range; register = n.register; context = n.next; renorm = e i }))
 
-pub encoding-renorm_is : (x : Context) (d : Bool) (s : Coding) (n : Narrowing x d s.range s.writer.register) → n.renorm ≡ true
+pub encoding-renorm_is : (x : Context) (d : Bool) (s : EncoderState) (n : Narrowing x d s.range s.writer.register) → n.renorm ≡ true
     → encoding x d s ≡ record { coding = renorme 15 n.range (at_part x d s n); context = n.next }
 encoding-renorm_is x d s n e =
     encoding-renorm s x n.next d n.range n.register
     (n.is ∙ (λ i. record { range = n.range; register = n.register; context = n.next; renorm = e i }))
 
-pub entry : (x : Context) (d : Bool) (s : Coding) (n : Narrowing x d s.range s.writer.register) → BetweenDecisions s → Entry x d s n (encoding x d s).coding
+pub entry : (x : Context) (d : Bool) (s : EncoderState) (n : Narrowing x d s.range s.writer.register) → BetweenDecisions s → Entry x d s n (encoding x d s).coding
 entry x d s n b =
     ⊎_elim
     (λ (e : n.renorm ≡ true).
@@ -101,22 +101,22 @@ entry x d s n b =
     (cases_Bool n.renorm)
 
 -- the narrowing of an encoder between two decisions
-pub narrowing_of : (x : Context) (d : Bool) (s : Coding) → BetweenDecisions s → Narrowing x d s.range s.writer.register
+pub narrowing_of : (x : Context) (d : Bool) (s : EncoderState) → BetweenDecisions s → Narrowing x d s.range s.writer.register
 narrowing_of x d s b = narrowing x d s.range s.writer.register b.normal b.below
 
-pub encode_from-entry : (s : Coding) (contexts : Contexts) (e : ℕ × Bool) (es : List (ℕ × Bool))
+pub encode_from-entry : (s : EncoderState) (contexts : Contexts) (e : ℕ × Bool) (es : List (ℕ × Bool))
     → encode_from s contexts (e ∷ es)
     ≡ encode_from (encoding (contexts e.0) e.1 s).coding (with_context contexts e.0 (encoding (contexts e.0) e.1 s).context) es
 unfolding encode_from
 encode_from-entry s contexts e es = refl
 
-pub encode_from-none : (s : Coding) (contexts : Contexts) → encode_from s contexts [] ≡ s
+pub encode_from-none : (s : EncoderState) (contexts : Contexts) → encode_from s contexts [] ≡ s
 unfolding encode_from
 encode_from-none s contexts = refl
 
 -- the bytes of a list from here on, and what they know of the interval here
-pub encode-back : (es : List (ℕ × Bool)) (s : Coding) (contexts : Contexts) → Resting s → Flush s (flush_coder (encode_from s contexts es))
-encode-back [] s contexts rest = subst (λ (t : Coding). Flush s (flush_coder t)) (sym (encode_from-none s contexts)) (flush s rest)
+pub encode-back : (es : List (ℕ × Bool)) (s : EncoderState) (contexts : Contexts) → Resting s → Flush s (flush_coder (encode_from s contexts es))
+encode-back [] s contexts rest = subst (λ (t : EncoderState). Flush s (flush_coder t)) (sym (encode_from-none s contexts)) (flush s rest)
 encode-back (e ∷ es) s contexts rest =
     let x : Context = contexts e.0 in
     let b : BetweenDecisions s = resting-between s rest in
@@ -125,5 +125,5 @@ encode-back (e ∷ es) s contexts rest =
     let i : Entry x e.1 s n t.coding = entry x e.1 s n b in
     let h : Flush t.coding (flush_coder (encode_from t.coding (with_context contexts e.0 t.context) es)) =
     encode-back es t.coding (with_context contexts e.0 t.context) i.resting in
-    subst (λ (z : Coding). Flush s (flush_coder z)) (sym (encode_from-entry s contexts e es))
+    subst (λ (z : EncoderState). Flush s (flush_coder z)) (sym (encode_from-entry s contexts e es))
     (record { valid = h.valid; back = λ f m len whole. i.narrow f m (i.renorm f m (h.back f m len whole)) })

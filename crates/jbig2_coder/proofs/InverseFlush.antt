@@ -4,7 +4,7 @@ use Rattle.std.proofs.Common.{◌≡◌, ℕ, suc, ◌+◌, ◌-◌, ◌*◌, �
 use Rattle.std.proofs.Math.Nat.{pow-suc, pow-le-pow_right}
 use Rattle.std.proofs.lemmas.Nat.{pow_pos, pow-add}
 use Rattle.std.proofs.lemmas.Bool.{cond_both, leb-true, leb-false}
-use Rattle.jbig2_coder.specs.Encoder.{Writer, Coding, byte_out, set_bits, flush_coder}
+use Rattle.jbig2_coder.specs.Encoder.{Writer, EncoderState, byte_out, set_bits, flush_coder}
 use Rattle.jbig2_coder.proofs.InverseBytes.{bits, value, first, Valid}
 use Rattle.jbig2_coder.proofs.InverseByteOut.{low, time, Room-le, Bounded, Put}
 use Rattle.jbig2_coder.proofs.InverseKnows.{Headed, Knows, Knows-wider, Headed-grown, last-byte, above-out}
@@ -140,11 +140,11 @@ flush-back f m a n w u x k b some few p q len whole =
         rw (Put-low a (ready u) x (ready-wait u) q, Put-time a (ready u) x (ready-wait u) q) at k
 
 -- What the bytes that FLUSH leaves know of the interval before it.
-pub record Flush (s : Coding) (w : Writer) : Type 0 where
+pub record Flush (s : EncoderState) (w : Writer) : Type 0 where
   pub valid : Valid w.out
   pub back : (f : ℕ → ℕ) (m : ℕ) → length w.out ≡ m → first f m ≡ w.out → KnowsAt f m s.range s.writer
 
-pub flush : (s : Coding) → Resting s → Flush s (flush_coder s)
+pub flush : (s : EncoderState) → Resting s → Flush s (flush_coder s)
 unfolding flush_coder
 flush s rest =
     let w : Writer = s.writer in

@@ -3,7 +3,7 @@
 use Rattle.std.proofs.Common.{◌≡◌, ℕ, ◌+◌, ◌-◌, ◌*◌, ◌/◌, ◌%◌, ◌^◌, ◌<◌, ◌≤◌, Bool, true, false, not, refl, ◌∙◌, arith, ⊎_elim, ◌⊎◌, inl, inr}
 use mathlib.Core.Bool.{beq}
 use Rattle.std.proofs.lemmas.Bool.{cases_lt, cases_Bool}
-use Rattle.jbig2_coder.specs.Table.{row_of}
+use Rattle.jbig2_coder.specs.Table.{qe_row}
 use Rattle.jbig2_coder.specs.Coder.{Context, Choice, choice, likely_next, unlikely_next}
 use Rattle.jbig2_coder.specs.Encoder.{narrowed_interval}
 use Rattle.jbig2_coder.proofs.Rows.{IsRow, row_of-is_row}
@@ -56,10 +56,10 @@ named : (z : Choice) (s d : Bool) (b r : ℕ) (y : Context) (renorm : Bool) → 
 named z s d b r y renorm e h = h ∙ (λ i. record { symbol = e i; a = b; c = r; context = y; renorm = renorm })
 
 likely-quiet : (x : Context) (d : Bool) (a c : ℕ) → beq d x.likely ≡ true → a < 0x10000
-    → 0x8000 ≤ a - (row_of x.row).qe → Narrowing x d a c
+    → 0x8000 ≤ a - (qe_row x.row).qe → Narrowing x d a c
 likely-quiet x d a c e below h =
-    let q : ℕ = (row_of x.row).qe in
-    let i : IsRow (row_of x.row) = row_of-is_row x.row in
+    let q : ℕ = (qe_row x.row).qe in
+    let i : IsRow (qe_row x.row) = row_of-is_row x.row in
     record {
       range = a - q;
       register = c + q;
@@ -80,13 +80,13 @@ likely-quiet x d a c e below h =
 
 -- a decision that takes the lower part, and one that takes the upper part, where A is renormalized
 takes-lower : (x : Context) (d : Bool) (a c : ℕ) (y : Context) → 0x8000 ≤ a → a < 0x10000
-    → narrowed_interval x d a c ≡ record { range = (row_of x.row).qe; register = c; context = y; renorm = true }
-    → ((r : ℕ) → a - (row_of x.row).qe ≤ r / 2 ^ 16
-    → choice x a r ≡ record { symbol = d; a = (row_of x.row).qe; c = (r + (2 ^ 32 - (a - (row_of x.row).qe) * 2 ^ 16)) % 2 ^ 32; context = y; renorm = true })
+    → narrowed_interval x d a c ≡ record { range = (qe_row x.row).qe; register = c; context = y; renorm = true }
+    → ((r : ℕ) → a - (qe_row x.row).qe ≤ r / 2 ^ 16
+    → choice x a r ≡ record { symbol = d; a = (qe_row x.row).qe; c = (r + (2 ^ 32 - (a - (qe_row x.row).qe) * 2 ^ 16)) % 2 ^ 32; context = y; renorm = true })
     → Narrowing x d a c
 takes-lower x d a c y normal below is chosen =
-    let q : ℕ = (row_of x.row).qe in
-    let i : IsRow (row_of x.row) = row_of-is_row x.row in
+    let q : ℕ = (qe_row x.row).qe in
+    let i : IsRow (qe_row x.row) = row_of-is_row x.row in
     record {
       range = q;
       register = c;
@@ -102,14 +102,14 @@ takes-lower x d a c y normal below is chosen =
       part = inr (record { upper = a - q; bottom = refl; whole = omega (arith, i.half); chosen = chosen });
     }
 
-takes-upper : (x : Context) (d : Bool) (a c : ℕ) (y : Context) → 0x8000 ≤ a → a < 0x10000 → a - (row_of x.row).qe < 0x8000
-    → narrowed_interval x d a c ≡ record { range = a - (row_of x.row).qe; register = c + (row_of x.row).qe; context = y; renorm = true }
-    → ((r : ℕ) → r / 2 ^ 16 < a - (row_of x.row).qe
-    → choice x a r ≡ record { symbol = d; a = a - (row_of x.row).qe; c = r; context = y; renorm = true })
+takes-upper : (x : Context) (d : Bool) (a c : ℕ) (y : Context) → 0x8000 ≤ a → a < 0x10000 → a - (qe_row x.row).qe < 0x8000
+    → narrowed_interval x d a c ≡ record { range = a - (qe_row x.row).qe; register = c + (qe_row x.row).qe; context = y; renorm = true }
+    → ((r : ℕ) → r / 2 ^ 16 < a - (qe_row x.row).qe
+    → choice x a r ≡ record { symbol = d; a = a - (qe_row x.row).qe; c = r; context = y; renorm = true })
     → Narrowing x d a c
 takes-upper x d a c y normal below h is chosen =
-    let q : ℕ = (row_of x.row).qe in
-    let i : IsRow (row_of x.row) = row_of-is_row x.row in
+    let q : ℕ = (qe_row x.row).qe in
+    let i : IsRow (qe_row x.row) = row_of-is_row x.row in
     record {
       range = a - q;
       register = c + q;
@@ -126,38 +126,38 @@ takes-upper x d a c y normal below h is chosen =
     }
 
 likely-lower : (x : Context) (d : Bool) (a c : ℕ) → beq d x.likely ≡ true → 0x8000 ≤ a → a < 0x10000
-    → a - (row_of x.row).qe < 0x8000 → a - (row_of x.row).qe < (row_of x.row).qe → Narrowing x d a c
+    → a - (qe_row x.row).qe < 0x8000 → a - (qe_row x.row).qe < (qe_row x.row).qe → Narrowing x d a c
 likely-lower x d a c e normal below h k =
-    let q : ℕ = (row_of x.row).qe in
+    let q : ℕ = (qe_row x.row).qe in
     takes-lower x d a c (likely_next x) normal below (narrowed-likely_lower x d a c q e refl h k)
     (λ r l. named _ x.likely d _ _ _ _ (beq-same d x.likely e) (choice-lower_likely x a r q refl l k))
 
 likely-upper : (x : Context) (d : Bool) (a c : ℕ) → beq d x.likely ≡ true → 0x8000 ≤ a → a < 0x10000
-    → a - (row_of x.row).qe < 0x8000 → (row_of x.row).qe ≤ a - (row_of x.row).qe → Narrowing x d a c
+    → a - (qe_row x.row).qe < 0x8000 → (qe_row x.row).qe ≤ a - (qe_row x.row).qe → Narrowing x d a c
 likely-upper x d a c e normal below h k =
-    let q : ℕ = (row_of x.row).qe in
+    let q : ℕ = (qe_row x.row).qe in
     takes-upper x d a c (likely_next x) normal below h (narrowed-likely_upper x d a c q e refl h k)
     (λ r l. named _ x.likely d _ _ _ _ (beq-same d x.likely e) (choice-upper_likely x a r q refl l h k))
 
 unlikely-upper : (x : Context) (d : Bool) (a c : ℕ) → beq d x.likely ≡ false → 0x8000 ≤ a → a < 0x10000
-    → a - (row_of x.row).qe < (row_of x.row).qe → Narrowing x d a c
+    → a - (qe_row x.row).qe < (qe_row x.row).qe → Narrowing x d a c
 unlikely-upper x d a c e normal below k =
-    let q : ℕ = (row_of x.row).qe in
-    let i : IsRow (row_of x.row) = row_of-is_row x.row in
+    let q : ℕ = (qe_row x.row).qe in
+    let i : IsRow (qe_row x.row) = row_of-is_row x.row in
     let h : a - q < 0x8000 = omega (arith, i.half) in
     takes-upper x d a c (unlikely_next x) normal below h (narrowed-unlikely_upper x d a c q e refl k)
     (λ r l. named _ (not x.likely) d _ _ _ _ (beq-other d x.likely e) (choice-upper_unlikely x a r q refl l h k))
 
 unlikely-lower : (x : Context) (d : Bool) (a c : ℕ) → beq d x.likely ≡ false → 0x8000 ≤ a → a < 0x10000
-    → (row_of x.row).qe ≤ a - (row_of x.row).qe → Narrowing x d a c
+    → (qe_row x.row).qe ≤ a - (qe_row x.row).qe → Narrowing x d a c
 unlikely-lower x d a c e normal below k =
-    let q : ℕ = (row_of x.row).qe in
+    let q : ℕ = (qe_row x.row).qe in
     takes-lower x d a c (unlikely_next x) normal below (narrowed-unlikely_lower x d a c q e refl k)
     (λ r l. named _ (not x.likely) d _ _ _ _ (beq-other d x.likely e) (choice-lower_unlikely x a r q refl l k))
 
 pub narrowing : (x : Context) (d : Bool) (a c : ℕ) → 0x8000 ≤ a → a < 0x10000 → Narrowing x d a c
 narrowing x d a c normal below =
-    let q : ℕ = (row_of x.row).qe in
+    let q : ℕ = (qe_row x.row).qe in
     ⊎_elim
     (λ (e : beq d x.likely ≡ true). ⊎_elim
     (λ (h : a - q < 0x8000). ⊎_elim

@@ -3,7 +3,7 @@ use Rattle.std.proofs.Common.{◌≡◌, ℕ, zero, suc, ◌+◌, ◌-◌, ◌*�
 use Rattle.std.proofs.Math.Nat.{pow-suc}
 use Rattle.std.proofs.lemmas.Nat.{pow_pos, pow-add}
 use Rattle.std.proofs.lemmas.Bool.{cases_eq, cases_lt, cond-true, cond-false, eq-eqb, ne_eqb}
-use Rattle.jbig2_coder.specs.Encoder.{Writer, Coding, byte_out, shift_once, renorme}
+use Rattle.jbig2_coder.specs.Encoder.{Writer, EncoderState, byte_out, shift_once, renorme}
 use Rattle.jbig2_coder.proofs.Encoders.{renormed-step, renormed-stop}
 use Rattle.jbig2_coder.proofs.InverseByteOut.{low, time, Room, Bounded, Put, put}
 use Rattle.jbig2_coder.proofs.InverseKnows.{Knows, Knows-scaled, Knows-put}
@@ -136,7 +136,7 @@ shift a w b h half =
     (cases_eq w.wait 1)
 
 -- What holds between two decisions, but the first.
-pub record Resting (s : Coding) : Type 0 where
+pub record Resting (s : EncoderState) : Type 0 where
   pub bounded : Bounded s.range s.writer
   pub some : 1 ≤ s.writer.wait
   pub few : s.writer.wait ≤ 11
@@ -144,7 +144,7 @@ pub record Resting (s : Coding) : Type 0 where
   pub below : s.range < 0x10000
 
 -- What RENORME makes of A and its writer: it rests, and what the end knows of it goes back.
-pub record Renorm (a : ℕ) (w : Writer) (s : Coding) : Type 0 where
+pub record Renorm (a : ℕ) (w : Writer) (s : EncoderState) : Type 0 where
   pub resting : Resting s
   pub back : (f : ℕ → ℕ) (m : ℕ) → KnowsAt f m s.range s.writer → KnowsAt f m a w
 

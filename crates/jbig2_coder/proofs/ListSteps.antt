@@ -8,7 +8,7 @@ use Rattle.jbig2_base.specs.declared.error.DecodeError.{DecodeError}
 use Rattle.jbig2_base.specs.Results.{Gives}
 use Rattle.jbig2_base.specs.Grid.{bit_number}
 use Rattle.jbig2_coder.specs.Coder.{Coder, Context, Decision, Registers, fresh, decision, initial_registers}
-use Rattle.jbig2_coder.specs.Encoder.{Coding, CodingInContexts, Codes, HasCoded, initial_coding, encoding, flush_coder, with_marker, with_context, contexts_of, encode_from, encoded_bytes, decoded_from, read_back}
+use Rattle.jbig2_coder.specs.Encoder.{EncoderState, CodingInContexts, Codes, HasCoded, initial_coding, encoding, flush_coder, with_marker, with_context, contexts_of, encode_from, encoded_bytes, decoded_from, read_back}
 use Rattle.jbig2_coder.specs.inner.EncoderViews.{Contexts, all_fresh}
 
 pub contexts_of-fresh : (known : List Context) → ((k : ℕ) → k < length known → get_or known k fresh ≡ fresh) → contexts_of known ≡ all_fresh
@@ -38,7 +38,7 @@ unfolding decoded_from contexts_of
 decoded_from-step bytes r known asked i k x h ek hk ex =
     rw (drop-cons asked i 0 h, ek, ex, with_context-contexts_of known k (decision bytes r x).context hk) refl
 
-encode_from-cons : (s : Coding) (contexts : Contexts) (entry : ℕ × Bool) (entries : List (ℕ × Bool))
+encode_from-cons : (s : EncoderState) (contexts : Contexts) (entry : ℕ × Bool) (entries : List (ℕ × Bool))
     → encode_from s contexts (entry ∷ entries)
     ≡ encode_from (encoding (contexts entry.0) entry.1 s).coding (with_context contexts entry.0 (encoding (contexts entry.0) entry.1 s).context) entries
 unfolding encode_from
@@ -48,7 +48,7 @@ contexts_of-known : (known : List Context) (k : ℕ) → contexts_of known k ≡
 unfolding contexts_of
 contexts_of-known known k = refl
 
-encode_from-step : (s : Coding) (known : List Context) (entries rest : List (ℕ × Bool)) (entry : ℕ × Bool) (x : Context)
+encode_from-step : (s : EncoderState) (known : List Context) (entries rest : List (ℕ × Bool)) (entry : ℕ × Bool) (x : Context)
     → entries ≡ entry ∷ rest → entry.0 < length known → get_or known entry.0 fresh ≡ x
     → encode_from s (contexts_of known) entries
     ≡ encode_from (encoding x entry.1 s).coding (contexts_of (set known entry.0 (encoding x entry.1 s).context)) rest
@@ -116,7 +116,7 @@ coded-more s t number k decision x y is_k inside ex coding context known =
     ∙ (λ j. encode_from (sym coding j) (contexts_of (set s.contexts k (sym context j))) rest)
     ∙ ap (λ (contexts : List Context). encode_from t.coding (contexts_of contexts) rest) (sym known))
 
-encode_from-none : (s : Coding) (contexts : Contexts) → encode_from s contexts [] ≡ s
+encode_from-none : (s : EncoderState) (contexts : Contexts) → encode_from s contexts [] ≡ s
 unfolding encode_from
 encode_from-none s contexts = refl
 
@@ -126,7 +126,7 @@ coded-bytes s list has =
     let all : encode_from initial_coding all_fresh list ≡ s.coding =
     ap (λ (entries : List (ℕ × Bool)). encode_from initial_coding all_fresh entries) (sym (append-nil list))
     ∙ has [] ∙ encode_from-none s.coding (contexts_of s.contexts) in
-    ap (λ (t : Coding). with_marker (flush_coder t).out) (sym all)
+    ap (λ (t : EncoderState). with_marker (flush_coder t).out) (sym all)
 
 -- the loop that adds a list's decisions
 pub coded-next : (s t : CodingInContexts) (entries : List (ℕ × Bool)) (i : ℕ) → i < length entries

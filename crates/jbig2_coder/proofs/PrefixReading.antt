@@ -1,15 +1,11 @@
 -- The steps of a walk in the code: the place in the bits, the level and the node.
-use Rattle.std.proofs.Common.{◌≡◌, ℕ, zero, suc, ◌+◌, ◌-◌, ◌*◌, ◌/◌, ◌%◌, ◌^◌, ◌<◌, ◌≤◌, ltb, cond, List, [], ◌∷◌, length, take, drop, get_or, Option, Some, None, Result, Ok, refl, sym, ◌∙◌, ap, subst, arith, ⊎_elim, length-drop}
-use Rattle.std.specs.List.{flat_map, slice_get}
-use Rattle.std.proofs.lemmas.Nat.{div-mul-add, mod-mul-add}
+use Rattle.std.proofs.Common.{◌≡◌, ℕ, zero, suc, ◌+◌, ◌-◌, ◌*◌, ◌/◌, ◌%◌, ◌<◌, ◌≤◌, ltb, cond, List, [], ◌∷◌, length, take, drop, get_or, Option, Some, None, Result, Ok, refl, sym, ◌∙◌, ap, subst, arith, ⊎_elim, length-drop}
+use Rattle.std.specs.List.{slice_get}
 use Rattle.std.proofs.lemmas.Option.{slice_get_past}
 use Rattle.std.proofs.lemmas.Bool.{cases_lt, cond-true, cond-false, lt-ltb, le-ltb}
 use Rattle.std.proofs.lemmas.List.{drop-drop, drop_more, drop_all, length-take-le, get_or-drop}
-use Rattle.jbig2_base.specs.Bits.{Place, byte_bits, bits_left, bits_next, bits_on, number_after, start_of}
+use Rattle.jbig2_base.specs.Bits.{Place, bits_left, bits_next, bits_on, number_after, start_of}
 use Rattle.jbig2_base.specs.declared.error.DecodeError.{DecodeError}
-use Rattle.jbig2_base.specs.inner.BitLists.{AreBits}
-use Rattle.jbig2_base.proofs.BitFieldLemmas.{bits-drop, bits-take, byte-bits, next-enough}
-use Rattle.jbig2_base.proofs.NumberLemmas.{number-front, number-lt}
 use Rattle.jbig2_base.proofs.ReaderLemmas.{bits_on-enough, bits_on-past, end-on}
 use Rattle.jbig2_coder.specs.declared.huffman_table.line.TableLine.{TableLine}
 use Rattle.jbig2_coder.specs.declared.huffman_table.levels.Level.{Level}
@@ -178,85 +174,4 @@ at-next lines levels root i node b p q r d at place rest some inside past more =
           ∙ at.place (1 + n)
           ∙ ap (λ (k : ℕ). bits_on k p) (let e : i + (1 + n) ≡ i + 1 + n = omega arith in e);
       rest = rest ∙ ap (λ (bs : List ℕ). drop 1 bs) at.rest ∙ drop-drop 1 i (bits_left p);
-    }
-
--- ---- bits that are looked at together
-pub left-bits : (p : Place) → AreBits (bits_left p)
-unfolding bits_left
-left-bits p = bits-drop p.bit (flat_map byte_bits p.bytes) (byte-bits p.bytes)
-
--- the first bit of a number of bits, and the number of the others
-pub peeked-bit : (m w : ℕ) (bits : List ℕ) → AreBits bits → Some w ≡ bits_next (m + 1) bits → (Some (w / 2 ^ m) ≡ bits_next 1 bits) × (Some (w % 2 ^ m) ≡ bits_next m (drop 1 bits))
-unfolding AreBits
-peeked-bit m w [] are e = absurd (omega (arith, next-enough (m + 1) w [] e))
-peeked-bit m w (b ∷ bits) are e =
-    let enough : m ≤ length bits = omega (arith, next-enough (m + 1) w (b ∷ bits) e) in
-    let low : ℕ = number_after 0 (take m bits) in
-    let alone : number_after 0 (take 1 (b ∷ bits)) ≡ b = omega arith in
-    let size : length (take m bits) ≡ m = length-take-le m bits enough in
-    let value : w ≡ b * 2 ^ m + low = some-is (e ∙ next-some (m + 1) (b ∷ bits) (omega (arith, enough)) ∙ ap (λ (k : ℕ). Some (number_after 0 (take k (b ∷ bits)))) (let one : m + 1 ≡ suc m = omega arith in one)) ∙ ap (λ (f : ℕ). number_after f (take m bits)) (let first : 2 * 0 + b ≡ b = omega arith in first) ∙ number-front b (take m bits) ∙ ap (λ (k : ℕ). b * 2 ^ k + low) size in
-    let small : low < 2 ^ m = subst (λ (k : ℕ). low < 2 ^ k) size (number-lt (take m bits) (bits-take m bits are.1)) in (
-      ap (λ (k : ℕ). Some k) (ap (λ (k : ℕ). k / 2 ^ m) value ∙ div-mul-add b (2 ^ m) low small ∙ sym alone) ∙ sym (next-some 1 (b ∷ bits) (omega arith)),
-      ap (λ (k : ℕ). Some k) (ap (λ (k : ℕ). k % 2 ^ m) value ∙ mod-mul-add b (2 ^ m) low small) ∙ sym (next-some m bits enough),
-    )
-  where
-    next-some : (n : ℕ) (bits : List ℕ) → n ≤ length bits → bits_next n bits ≡ Some (number_after 0 (take n bits))
-    next-some n bits enough = cond-false (ltb (length bits) n) None (Some (number_after 0 (take n bits))) (le-ltb (length bits) n enough)
-
-    some-is : {m n : ℕ} → Some m ≡ Some n → m ≡ n
-    some-is e = cc
-
--- Before level i, where the next `count` bits make `rest`: the walk from here is the walk from where it began.
-pub record IsAhead (lines : List TableLine) (levels : List Level) (root i node count rest : ℕ) (bits : List ℕ) : Type 0 where
-  pub walks : walk (groups_of lines (drop i levels)) i node (drop i bits) ≡ walk_of lines levels root bits
-  pub are : AreLevels lines (drop i levels)
-  pub small : node ≤ length lines
-  pub next : Some rest ≡ bits_next count (drop i bits)
-
--- a walk that ends with this result after n bits
-reads-of : (p r : Place) (a : Result TableLine DecodeError) (n : ℕ) (w : CodeReading TableLine) → w ≡ record { result = a; taken = n } → r ≡ bits_on n p → bits_left r ≡ drop n (bits_left p) → Reads p r a w
-reads-of p r a n w is place rest =
-    let taken : w.taken ≡ n = ap (λ (v : CodeReading TableLine). v.taken) is in
-    record {
-      value = sym (ap (λ (v : CodeReading TableLine). v.result) is);
-      place = place ∙ ap (λ (k : ℕ). bits_on k p) (sym taken);
-      rest = rest ∙ ap (λ (k : ℕ). drop k (bits_left p)) (sym taken);
-    }
-
-pub ahead-found : (lines : List TableLine) (levels : List Level) (root i node count rest b : ℕ) (p r : Place) (d : Level) (x : TableLine) → IsAhead lines levels root i node count rest (bits_left p) → Some b ≡ bits_next 1 (drop i (bits_left p)) → i < length levels → 2 * node + b < (get_or levels i d).count → r ≡ bits_on (i + 1) p → bits_left r ≡ drop (i + 1) (bits_left p) → Reads p r (Ok (get_or lines ((get_or levels i d).first + (2 * node + b)) x)) (walk_of lines levels root (bits_left p))
-ahead-found lines levels root i node count rest b p r d x at some inside found place after =
-    let v = get_or levels i d in
-    let e = 2 * node + b in
-    let are = level-next lines levels i d inside at.are in
-    let within : e < length (drop v.first lines) = omega (arith, length-drop v.first lines) in
-    reads-of p r (Ok (get_or lines (v.first + e) x)) (i + 1) (walk_of lines levels root (bits_left p))
-    (sym at.walks
-    ∙ walk-next lines levels i node b (drop i (bits_left p)) d inside some
-    ∙ ap (λ (o : Option TableLine). found_or o (i + 1) (turned lines levels i node b (drop 1 (drop i (bits_left p))) d)) (get-take v.count e (drop v.first lines) x found within ∙ ap (λ (y : TableLine). Some y) (get_or-drop v.first lines e x)))
-    place after
-
-pub ahead-refused : (lines : List TableLine) (levels : List Level) (root i node count rest b : ℕ) (p r : Place) (d : Level) → IsAhead lines levels root i node count rest (bits_left p) → Some b ≡ bits_next 1 (drop i (bits_left p)) → i < length levels → (get_or levels i d).count ≤ 2 * node + b → (get_or levels i d).nodes ≤ 2 * node + b - (get_or levels i d).count → r ≡ bits_on (i + 1) p → bits_left r ≡ drop (i + 1) (bits_left p) → Reads p r ((unknown_code {A = TableLine} 0).result) (walk_of lines levels root (bits_left p))
-ahead-refused lines levels root i node count rest b p r d at some inside past none place after =
-    let are = level-next lines levels i d inside at.are in
-    reads-of p r ((unknown_code {A = TableLine} 0).result) (i + 1) (walk_of lines levels root (bits_left p))
-    (sym at.walks
-    ∙ walk-next lines levels i node b (drop i (bits_left p)) d inside some
-    ∙ not_found lines levels i node b (drop 1 (drop i (bits_left p))) d are past
-    ∙ cond-false (ltb (child-of levels i node b d) (get_or levels i d).nodes) (walk (groups_of lines (drop (i + 1) levels)) (i + 1) (child-of levels i node b d) (drop 1 (drop i (bits_left p)))) (unknown_code (i + 1)) (le-ltb (child-of levels i node b d) (get_or levels i d).nodes none))
-    place after
-
-pub ahead-next : (lines : List TableLine) (levels : List Level) (root i node count rest b left : ℕ) (bits : List ℕ) (d : Level) → IsAhead lines levels root i node count rest bits → Some b ≡ bits_next 1 (drop i bits) → Some left ≡ bits_next (count - 1) (drop 1 (drop i bits)) → i < length levels → (get_or levels i d).count ≤ 2 * node + b → 2 * node + b - (get_or levels i d).count < (get_or levels i d).nodes → IsAhead lines levels root (i + 1) (2 * node + b - (get_or levels i d).count) (count - 1) left bits
-ahead-next lines levels root i node count rest b left bits d at some others inside past more =
-    let are = level-next lines levels i d inside at.are in
-    let c = child-of levels i node b d in
-    record {
-      walks =
-          sym (walk-next lines levels i node b (drop i bits) d inside some
-          ∙ not_found lines levels i node b (drop 1 (drop i bits)) d are past
-          ∙ cond-true (ltb c (get_or levels i d).nodes) (walk (groups_of lines (drop (i + 1) levels)) (i + 1) c (drop 1 (drop i bits))) (unknown_code (i + 1)) (lt-ltb c (get_or levels i d).nodes more)
-          ∙ ap (λ (bs : List ℕ). walk (groups_of lines (drop (i + 1) levels)) (i + 1) c bs) (drop-drop 1 i bits))
-          ∙ at.walks;
-      are = are.3;
-      small = omega arith;
-      next = others ∙ ap (λ (bs : List ℕ). bits_next (count - 1) bs) (drop-drop 1 i bits);
     }

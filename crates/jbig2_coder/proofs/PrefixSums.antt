@@ -3,7 +3,7 @@ use Rattle.std.proofs.Common.{◌≡◌, ℕ, zero, suc, ◌+◌, Bool, true, fa
 use Rattle.std.proofs.lemmas.List.Elements.{filter-append}
 use Rattle.jbig2_coder.specs.declared.huffman_table.line.TableLine.{TableLine}
 use Rattle.jbig2_coder.specs.PrefixCode.{Member, shorter, level, members_of, members_from}
-use Rattle.jbig2_coder.specs.inner.CodeReadings.{code_of}
+use Rattle.jbig2_coder.specs.inner.CodeReadings.{code_of_level}
 use Rattle.jbig2_coder.specs.inner.PrefixLevels.{codes_of_length, codes_from}
 
 -- one line more is as long, or not
@@ -21,17 +21,17 @@ at-head : (b : Bool) (l n : ℕ) (x : TableLine) (ys : List TableLine) (others :
 at-head true l n x ys others e = ap (λ (ms : List Member). record { bits = l; number = n; line = x } ∷ ms) e
 at-head false l n x ys others e = e ∙ ap (λ (k : ℕ). codes_of_length l k ys) (let none : n + 0 ≡ n = omega arith in none)
 
-members-are : (l : ℕ) (lines earlier xs : List TableLine) → members_of l lines earlier xs ≡ codes_of_length l (code_of l lines earlier) (level l xs)
+members-are : (l : ℕ) (lines earlier xs : List TableLine) → members_of l lines earlier xs ≡ codes_of_length l (code_of_level l lines earlier) (level l xs)
 members-are l lines earlier [] = refl
 members-are l lines earlier (x ∷ xs) =
     let b : Bool = eqb x.prefix_length l in
-    let more : code_of l lines (earlier ++ x ∷ []) ≡ code_of l lines earlier + cond b 1 0 = omega (arith, level-more l earlier x) in
-    at-head b l (code_of l lines earlier) x (level l xs) (members_of l lines (earlier ++ x ∷ []) xs)
+    let more : code_of_level l lines (earlier ++ x ∷ []) ≡ code_of_level l lines earlier + cond b 1 0 = omega (arith, level-more l earlier x) in
+    at-head b l (code_of_level l lines earlier) x (level l xs) (members_of l lines (earlier ++ x ∷ []) xs)
     (members-are l lines (earlier ++ x ∷ []) xs ∙ ap (λ (n : ℕ). codes_of_length l n (level l xs)) more)
 
 pub members-from : (n l : ℕ) (lines : List TableLine) → members_from n l lines ≡ codes_from n l lines
 members-from zero l lines = refl
 members-from (suc n) l lines =
-    let none : code_of l lines [] ≡ shorter l lines = omega arith in
+    let none : code_of_level l lines [] ≡ shorter l lines = omega arith in
     ap (λ (ms : List Member). ms ++ members_from n (l + 1) lines) (members-are l lines [] lines ∙ ap (λ (k : ℕ). codes_of_length l k (level l lines)) none)
     ∙ ap (λ (ms : List Member). codes_of_length l (shorter l lines) (level l lines) ++ ms) (members-from n (l + 1) lines)

@@ -4,12 +4,12 @@ use Rattle.std.proofs.Math.Nat.{mul-le-mul, mul-le-mul_left}
 use Rattle.std.proofs.lemmas.Bool.{cases_lt, and_from, and_left, and_right, true≢false}
 use Rattle.std.proofs.lemmas.Bool.Decides.{nat_tests}
 use Rattle.jbig2_coder.specs.inner.Ahead.{floor_of}
-use Rattle.jbig2_coder.specs.Table.{row_of}
+use Rattle.jbig2_coder.specs.Table.{qe_row}
 use Rattle.jbig2_coder.specs.Coder.{Context, Registers, choice, decision, is_quiet, all_quiet}
 use Rattle.jbig2_coder.proofs.Choices.{choice-quiet}
 use Rattle.jbig2_coder.proofs.Decisions.{decision-quiet}
 
-choice-loud : (x : Context) (a c qe : ℕ) → (row_of x.row).qe ≡ qe → a - qe < max (c / 2 ^ 16 + 1) 0x8000 → (choice x a c).renorm ≡ true
+choice-loud : (x : Context) (a c qe : ℕ) → (qe_row x.row).qe ≡ qe → a - qe < max (c / 2 ^ 16 + 1) 0x8000 → (choice x a c).renorm ≡ true
 unfolding choice
 choice-loud x a c qe e h = grind (arith, nat_tests)
 
@@ -17,11 +17,11 @@ likely-same : (b : Bool) → cond b b (not b) ≡ true
 likely-same true = refl
 likely-same false = refl
 
-pub is_quiet-yes : (s : Registers) (x : Context) (qe : ℕ) → (row_of x.row).qe ≡ qe → floor_of s.code.c ≤ s.a - qe → is_quiet s x ≡ true
+pub is_quiet-yes : (s : Registers) (x : Context) (qe : ℕ) → (qe_row x.row).qe ≡ qe → floor_of s.code.c ≤ s.a - qe → is_quiet s x ≡ true
 unfolding is_quiet
 is_quiet-yes s x qe e h = rw (choice-quiet x s.a s.code.c qe e (omega arith) (omega arith)) (and_from _ _ (likely-same x.likely) refl)
 
-pub is_quiet-no : (s : Registers) (x : Context) (qe : ℕ) → (row_of x.row).qe ≡ qe → s.a - qe < floor_of s.code.c → is_quiet s x ≡ false
+pub is_quiet-no : (s : Registers) (x : Context) (qe : ℕ) → (qe_row x.row).qe ≡ qe → s.a - qe < floor_of s.code.c → is_quiet s x ≡ false
 unfolding is_quiet
 is_quiet-no s x qe e h = and_right _ _ (ap not (choice-loud x s.a s.code.c qe e h))
 
@@ -29,7 +29,7 @@ is_quiet-no s x qe e h = and_right _ _ (ap not (choice-loud x s.a s.code.c qe e 
 fallen : ℕ → Registers → Registers
 fallen qe s = record { a = s.a - qe; code = s.code }
 
-all_quiet-more : (n : ℕ) (bytes : List ℕ) (s : Registers) (x : Context) (qe : ℕ) → (row_of x.row).qe ≡ qe → floor_of s.code.c ≤ s.a - qe
+all_quiet-more : (n : ℕ) (bytes : List ℕ) (s : Registers) (x : Context) (qe : ℕ) → (qe_row x.row).qe ≡ qe → floor_of s.code.c ≤ s.a - qe
     → all_quiet (suc n) bytes s x ≡ all_quiet n bytes (fallen qe s) x
 unfolding all_quiet fallen
 all_quiet-more n bytes s x qe e h =
@@ -37,19 +37,19 @@ all_quiet-more n bytes s x qe e h =
     let d = decision-quiet bytes s x qe e (omega arith) (omega arith) in
     rw (q, d) refl
 
-all_quiet-stop : (n : ℕ) (bytes : List ℕ) (s : Registers) (x : Context) (qe : ℕ) → (row_of x.row).qe ≡ qe → s.a - qe < floor_of s.code.c
+all_quiet-stop : (n : ℕ) (bytes : List ℕ) (s : Registers) (x : Context) (qe : ℕ) → (qe_row x.row).qe ≡ qe → s.a - qe < floor_of s.code.c
     → all_quiet (suc n) bytes s x ≡ false
 unfolding all_quiet
 all_quiet-stop n bytes s x qe e h = and_left _ _ (is_quiet-no s x qe e h)
 
-pub run-yes : (n : ℕ) (bytes : List ℕ) (s : Registers) (x : Context) (qe : ℕ) → (row_of x.row).qe ≡ qe → floor_of s.code.c + qe * n ≤ s.a
+pub run-yes : (n : ℕ) (bytes : List ℕ) (s : Registers) (x : Context) (qe : ℕ) → (qe_row x.row).qe ≡ qe → floor_of s.code.c + qe * n ≤ s.a
     → all_quiet n bytes s x ≡ true
 unfolding all_quiet fallen
 run-yes zero bytes s x qe e h = refl
 run-yes (suc n) bytes s x qe e h =
     all_quiet-more n bytes s x qe e (omega arith) ∙ run-yes n bytes (fallen qe s) x qe e (omega arith)
 
-pub run-no : (n : ℕ) (bytes : List ℕ) (s : Registers) (x : Context) (qe : ℕ) → (row_of x.row).qe ≡ qe → 1 ≤ qe → 1 ≤ n → s.a < floor_of s.code.c + qe * n
+pub run-no : (n : ℕ) (bytes : List ℕ) (s : Registers) (x : Context) (qe : ℕ) → (qe_row x.row).qe ≡ qe → 1 ≤ qe → 1 ≤ n → s.a < floor_of s.code.c + qe * n
     → all_quiet n bytes s x ≡ false
 unfolding fallen
 run-no zero bytes s x qe e some more h = absurd (omega arith)
@@ -63,15 +63,15 @@ run-no (suc (suc n)) bytes s x qe e some more h =
 
 -- What a quiet decision does.
 pub is_quiet-decision : (bytes : List ℕ) (s : Registers) (x : Context) → is_quiet s x ≡ true
-    → decision bytes s x ≡ record { symbol = x.likely; registers = record { a = s.a - (row_of x.row).qe; code = s.code }; context = x }
+    → decision bytes s x ≡ record { symbol = x.likely; registers = record { a = s.a - (qe_row x.row).qe; code = s.code }; context = x }
 is_quiet-decision bytes s x h =
     ⊎_elim
-    (λ (l : s.a - (row_of x.row).qe < floor_of s.code.c). absurd (true≢false (sym h ∙ is_quiet-no s x (row_of x.row).qe refl l)))
-    (λ (l : floor_of s.code.c ≤ s.a - (row_of x.row).qe). decision-quiet bytes s x (row_of x.row).qe refl (omega arith) (omega arith))
-    (cases_lt (s.a - (row_of x.row).qe) (floor_of s.code.c))
+    (λ (l : s.a - (qe_row x.row).qe < floor_of s.code.c). absurd (true≢false (sym h ∙ is_quiet-no s x (qe_row x.row).qe refl l)))
+    (λ (l : floor_of s.code.c ≤ s.a - (qe_row x.row).qe). decision-quiet bytes s x (qe_row x.row).qe refl (omega arith) (omega arith))
+    (cases_lt (s.a - (qe_row x.row).qe) (floor_of s.code.c))
 
 -- ---- groups of decisions, by the room that A has above its floor
-pub groups-yes : (count n : ℕ) (bytes : List ℕ) (s : Registers) (x : Context) (qe total room : ℕ) → (row_of x.row).qe ≡ qe → total ≡ qe * count → room ≡ s.a - floor_of s.code.c → 1 ≤ total → total * n ≤ room → all_quiet (count * n) bytes s x ≡ true
+pub groups-yes : (count n : ℕ) (bytes : List ℕ) (s : Registers) (x : Context) (qe total room : ℕ) → (qe_row x.row).qe ≡ qe → total ≡ qe * count → room ≡ s.a - floor_of s.code.c → 1 ≤ total → total * n ≤ room → all_quiet (count * n) bytes s x ≡ true
 unfolding all_quiet
 groups-yes count zero bytes s x qe total room e all is some h =
     let none : count * 0 ≡ 0 = omega arith in
@@ -82,7 +82,7 @@ groups-yes count (suc n) bytes s x qe total room e all is some h =
     let one : 1 * 1 ≤ total * suc n = mul-le-mul some next in
     run-yes (count * suc n) bytes s x qe e (omega arith)
 
-pub groups-no : (count n : ℕ) (bytes : List ℕ) (s : Registers) (x : Context) (qe total room : ℕ) → (row_of x.row).qe ≡ qe → 1 ≤ qe → 1 ≤ count → total ≡ qe * count → room ≡ s.a - floor_of s.code.c → room < total * (n + 1) → all_quiet (count * (n + 1)) bytes s x ≡ false
+pub groups-no : (count n : ℕ) (bytes : List ℕ) (s : Registers) (x : Context) (qe total room : ℕ) → (qe_row x.row).qe ≡ qe → 1 ≤ qe → 1 ≤ count → total ≡ qe * count → room ≡ s.a - floor_of s.code.c → room < total * (n + 1) → all_quiet (count * (n + 1)) bytes s x ≡ false
 groups-no count n bytes s x qe total room e some counted all is h =
     let product : qe * (count * (n + 1)) ≡ total * (n + 1) = rw all (omega arith) in
     let next : 1 ≤ n + 1 = omega arith in

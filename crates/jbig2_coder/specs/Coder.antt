@@ -3,7 +3,7 @@
 -- the bytes FF 8F begin with the decision 0, where Annex E has 1.
 use Rattle.std.specs.Prelude.{ℕ, suc, zero, ◌+◌, ◌-◌, ◌*◌, ◌/◌, ◌%◌, ◌^◌, Bool, true, false, not, ◌&&◌, ◌||◌}
 use Rattle.std.specs.Prelude.{if◌then◌else◌, ◌==◌, nat_lt, nat_le, List, length, slice_index_or}
-use Rattle.jbig2_coder.specs.Table.{row_of}
+use Rattle.jbig2_coder.specs.Table.{qe_row}
 use Rattle.jbig2_coder.specs.declared.arithmetic_decoder.registers.CodeRegister.{CodeRegister}
 
 abbrev pub Context : Type 0  -- a row of Table E.1, and the likely symbol
@@ -61,11 +61,11 @@ is_within bytes registers =
     nat_lt (place + 1) (length bytes) || not (byte_at bytes place == 0xFF)
 
 unfoldable pub likely_next : Context → Context  -- the context after the likely symbol
-likely_next context = record { row = (row_of context.row).nmps; likely = context.likely }
+likely_next context = record { row = (qe_row context.row).nmps; likely = context.likely }
 
 unfoldable pub unlikely_next : Context → Context  -- the context after the unlikely symbol
 unlikely_next context =
-    let row = row_of context.row in
+    let row = qe_row context.row in
     record { row = row.nlps; likely = (if row.switch then not context.likely else context.likely) }
 
 abbrev pub Choice : Type 0  -- the symbol, A and C before RENORMD, the context afterwards, whether RENORMD follows
@@ -74,7 +74,7 @@ Choice = record { symbol : Bool; a : ℕ; c : ℕ; context : Context; renorm : B
 -- DECODE (Figure G.2): the upper part of the interval is the likely symbol's, unless that is now the smaller part
 unfoldable pub choice : Context → ℕ → ℕ → Choice
 choice context a c =
-    let qe = (row_of context.row).qe in
+    let qe = (qe_row context.row).qe in
     let rest = a - qe in
     let lower = (c + (2 ^ 32 - rest * 2 ^ 16)) % 2 ^ 32 in
     let likely : ℕ → ℕ → Choice = λ size low.

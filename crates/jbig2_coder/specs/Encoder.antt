@@ -1,18 +1,18 @@
--- The arithmetic encoder (T.88, E.2), one shift at a time. Coding a decision in its context takes the registers and the
+-- The arithmetic encoder (T.88, E.2), one shift at a time. EncoderState a decision in its context takes the registers and the
 -- bytes so far, and gives the next ones. FLUSH ends the bytes. Then come whole lists of decisions, and the law that the
 -- decoder of `Coder` reads them back.
 use Rattle.std.specs.Prelude.{ℕ, suc, zero, ◌+◌, ◌-◌, ◌*◌, ◌/◌, ◌%◌, ◌^◌, Bool, true, false, not, if◌then◌else◌, ◌==◌}
 use Rattle.std.specs.Prelude.{nat_lt, nat_le, List, [], ◌∷◌, ◌++◌, reverse, map, slice_index_or, ◌≡◌}
-use Rattle.jbig2_coder.specs.Table.{row_of}
+use Rattle.jbig2_coder.specs.Table.{qe_row}
 use Rattle.jbig2_coder.specs.Coder.{Context, likely_next, unlikely_next, Registers, fresh, decision, initial_registers}
 
 abbrev pub Writer : Type 0  -- C, the shifts until the next byte goes out (CT), and the bytes that went out, last first
 Writer = record { register : ℕ; wait : ℕ; out : List ℕ }
 
-abbrev pub Coding : Type 0  -- with the interval register A
-Coding = record { range : ℕ; writer : Writer }
+abbrev pub EncoderState : Type 0  -- with the interval register A
+EncoderState = record { range : ℕ; writer : Writer }
 
-unfoldable pub initial_coding : Coding  -- INITENC (E.2.8)
+unfoldable pub initial_coding : EncoderState  -- INITENC (E.2.8)
 initial_coding = record { range = 0x8000; writer = record { register = 0; wait = 12; out = [] } }
 
 unfoldable pub eight_bits_out : ℕ → List ℕ → Writer  -- BYTEOUT (E.2.7) of a byte of eight bits
@@ -36,7 +36,7 @@ shift_once w =
     else record { register = 2 * w.register; wait = w.wait - 1; out = w.out }
 
 -- RENORME (E.2.6): A and C are shifted bit by bit until A is at least 8000. Fifteen shifts are enough for any A but 0.
-unfoldable pub renorme : ℕ → ℕ → Writer → Coding
+unfoldable pub renorme : ℕ → ℕ → Writer → EncoderState
 renorme zero a w = record { range = a; writer = w }
 renorme (suc n) a w =
     let more = renorme n (2 * a) (shift_once w) in
@@ -49,7 +49,7 @@ module _ (context : Context) where  -- the context of the decision
   -- CODEMPS (E.2.4): the likely symbol gets the upper part of the interval, unless that is now the smaller part
   unfoldable pub narrowed_likely : ℕ → ℕ → Narrowed
   narrowed_likely a c =
-      let qe = (row_of context.row).qe in
+      let qe = (qe_row context.row).qe in
       let rest = a - qe in
       if nat_le 0x8000 rest then record { range = rest; register = c + qe; context = context; renorm = false }
       else if nat_lt rest qe then record { range = qe; register = c; context = likely_next context; renorm = true }
@@ -58,7 +58,7 @@ module _ (context : Context) where  -- the context of the decision
   -- CODELPS (E.2.4): the unlikely symbol gets the other part
   unfoldable pub narrowed_unlikely : ℕ → ℕ → Narrowed
   narrowed_unlikely a c =
-      let qe = (row_of context.row).qe in
+      let qe = (qe_row context.row).qe in
       let rest = a - qe in
       if nat_lt rest qe then record { range = rest; register = c + qe; context = unlikely_next context; renorm = true }
       else record { range = qe; register = c; context = unlikely_next context; renorm = true }
@@ -69,11 +69,11 @@ module _ (context : Context) where  -- the context of the decision
       else narrowed_unlikely a c
 
   -- the encoder after a decision is coded, and the decision's context then
-  unfoldable pub encoding : Bool → Coding → record { coding : Coding; context : Context }
+  unfoldable pub encoding : Bool → EncoderState → record { coding : EncoderState; context : Context }
   encoding decision s =
       let next = narrowed_interval decision s.range s.writer.register in
       let writer : Writer = record s.writer { register = next.register } in
-      let as_is : Coding = record { range = next.range; writer = writer } in
+      let as_is : EncoderState = record { range = next.range; writer = writer } in
       record { coding = (if next.renorm then renorme 15 next.range writer else as_is); context = next.context }
 
 unfoldable pub set_bits : ℕ → ℕ → ℕ  -- SETBITS (E.2.9): C with as many low bits set as the interval allows
@@ -82,7 +82,7 @@ set_bits a c =
     if nat_le (c + a) ones then ones - 0x8000 else ones
 
 -- FLUSH (E.2.9): C goes out in two bytes, and then the marker FF AC ends the data; a last byte FF begins the marker
-unfoldable pub flush_coder : Coding → Writer
+unfoldable pub flush_coder : EncoderState → Writer
 flush_coder s =
     let first = byte_out (set_bits s.range s.writer.register * 2 ^ s.writer.wait) s.writer.out in
     byte_out (first.register * 2 ^ first.wait) first.out
@@ -97,7 +97,7 @@ with_marker out = reverse (if is_full out then 0xAC ∷ out else 0xAC ∷ 0xFF �
 unfoldable pub with_context : (ℕ → Context) → ℕ → Context → ℕ → Context  -- the contexts with one of them replaced
 with_context contexts k context = λ j. if j == k then context else contexts j
 
-unfoldable pub encode_from : Coding → (ℕ → Context) → List (ℕ × Bool) → Coding  -- the encoder after a list
+unfoldable pub encode_from : EncoderState → (ℕ → Context) → List (ℕ × Bool) → EncoderState  -- the encoder after a list
 encode_from s contexts [] = s
 encode_from s contexts ((k, decision) ∷ entries) =
     let next = encoding (contexts k) decision s in
@@ -107,7 +107,7 @@ unfoldable pub encoded_bytes : List (ℕ × Bool) → List ℕ  -- the bytes of 
 encoded_bytes entries = with_marker (flush_coder (encode_from initial_coding (λ _. fresh) entries)).out
 
 abbrev pub CodingInContexts : Type 0  -- an encoder, and the contexts that it knows
-CodingInContexts = record { coding : Coding; contexts : List Context }
+CodingInContexts = record { coding : EncoderState; contexts : List Context }
 
 unfoldable pub contexts_of : List Context → (ℕ → Context)  -- the contexts of a list; all others are fresh
 contexts_of known = λ k. slice_index_or known k fresh

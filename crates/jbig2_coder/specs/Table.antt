@@ -1,4 +1,4 @@
--- The probability states of the adaptive coder (T.88, Table E.1). `row_of` takes the number of a row and gives the row.
+-- The probability states of the adaptive coder (T.88, Table E.1). `qe_row` takes the number of a row and gives the row.
 use Rattle.std.specs.Prelude.{ℕ, Bool, true, false, List, [], ◌∷◌, slice_index_or}
 
 -- A row: the unlikely symbol's probability, the next row after either symbol, and whether the likely symbol changes.
@@ -58,5 +58,5 @@ rows =
     (row 0x0001 45 43 false) ∷
     (row 0x5601 46 46 false) ∷ []
 
-unfoldable pub row_of : ℕ → QeData  -- row k of the table; no context has a row past the end
-row_of k = slice_index_or rows k (row 0x5601 46 46 false)
+unfoldable pub qe_row : ℕ → QeData  -- row k of the table; no context has a row past the end
+qe_row k = slice_index_or rows k (row 0x5601 46 46 false)

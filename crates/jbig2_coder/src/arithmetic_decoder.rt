@@ -2,7 +2,7 @@
 
 ghost use Rattle.std.specs.Prelude.{◌≡◌, ℕ, ◌+◌, ◌-◌, ◌*◌, ◌/◌, ◌^◌, ◌<◌, ◌≤◌, not, true, false, max, if◌then◌else◌};
 ghost use Rattle.jbig2_base.specs.Grid.{bit_number};
-ghost use Rattle.jbig2_coder.specs.Table.{row_of};
+ghost use Rattle.jbig2_coder.specs.Table.{qe_row};
 ghost use Rattle.jbig2_coder.specs.Coder.{fresh, byte_at, byte_in, renormd, initial_registers, choice, is_within, likely_next, unlikely_next, decision, all_quiet};
 ghost use Rattle.jbig2_coder.specs.inner.States.{Does};
 
@@ -34,20 +34,20 @@ struct Part {
 impl Model for ArithmeticDecoderContext {
     ghost use Rattle.std.specs.Prelude.{◌<◌};
     ghost use Rattle.jbig2_coder.specs.Coder.{Context};
-    ghost use Rattle.jbig2_coder.specs.inner.States.{context_of, state_of};
+    ghost use Rattle.jbig2_coder.specs.inner.States.{context_in_state, state_of};
     ghost use Rattle.std.proofs.Common.{◌≡◌, ◌%◌, ⊎_elim, arith};
     ghost use Rattle.std.proofs.lemmas.Bool.{cases_eq, eq-eqb, ne_eqb};
 
     ghost Value = { Context };
 
-    ghost view = { λ s. context_of s.state };
+    ghost view = { λ s. context_in_state s.state };
 
     ghost invariant = { λ s. s.state < 94 };
 
     ghost inverse = { λ v. record { state = state_of v } };
 
     ghost inverse_ok = { λ s h i.
-        let back : state_of (context_of s.state) ≡ s.state =
+        let back : state_of (context_in_state s.state) ≡ s.state =
         ⊎_elim (λ (one : s.state % 2 ≡ 1). rw (eq-eqb (s.state % 2) 1 one) (omega arith))
         (λ (other : s.state % 2 ≡ 1 → ⊥). rw (ne_eqb (s.state % 2) 1 other) (omega arith))
         (cases_eq (s.state % 2) 1) in
@@ -294,7 +294,7 @@ impl<'a> ArithmeticDecoder<'a> {
         ensures coder { self.new ≡ (if result
             then record self.old {
               registers = record self.old.registers {
-                a = self.old.registers.a - count * (row_of context.now.row).qe;
+                a = self.old.registers.a - count * (qe_row context.now.row).qe;
               };
             }
             else self.old) }
@@ -331,7 +331,7 @@ impl<'a> ArithmeticDecoder<'a> {
             ≡ false }
         ensures coder { self.new ≡ record self.old {
           registers = record self.old.registers {
-            a = self.old.registers.a - count * result * (row_of context.now.row).qe;
+            a = self.old.registers.a - count * result * (qe_row context.now.row).qe;
           };
         } }
         ensures steps { steps.new

@@ -6,7 +6,7 @@ ghost use Rattle.jbig2_base.specs.Grid.{bit_number};
 ghost use Rattle.jbig2_coder.specs.Coder.{fresh};
 ghost use Rattle.jbig2_coder.specs.Integers.{value_of_bits, next, read, read_more, prev_of, value_of, integer};
 ghost use Rattle.jbig2_coder.specs.inner.Prefixes.{prefix, range_of};
-ghost use Rattle.jbig2_coder.specs.inner.IntegerStates.{GoesOn, IfRead, prev_next};
+ghost use Rattle.jbig2_coder.specs.inner.IntegerStates.{ReadsOn, IfRead, prev_next};
 
 use crate::arithmetic_decoder::{ArithmeticDecoder, ArithmeticDecoderContext};
 use jbig2_base::bitmap::steps::Steps;
@@ -127,7 +127,7 @@ fn read_bit<L: Ledger>(
     ensures digit { result < 2 }
     ensures bit { IfRead (λ r. result ≡ bit_number (next prev_of decoder.old.bytes r).symbol)
         prev.old decoder.old contexts.old steps.old }
-    ensures reads { GoesOn (λ r. read prev_of decoder.old.bytes r)
+    ensures reads { ReadsOn (λ r. read prev_of decoder.old.bytes r)
         prev.old decoder.old contexts.old steps.old
         prev.new decoder.new contexts.new steps.new }
 {
@@ -149,7 +149,7 @@ fn read_prefix<L: Ledger>(
     ensures bytes { decoder.new.bytes ≡ decoder.old.bytes }
     ensures ones { IfRead (λ r. result ≡ (prefix 5 0 decoder.old.bytes r).ones)
         prev.old decoder.old contexts.old steps.old }
-    ensures reads { GoesOn (λ r. (prefix 5 0 decoder.old.bytes r).reading)
+    ensures reads { ReadsOn (λ r. (prefix 5 0 decoder.old.bytes r).reading)
         prev.old decoder.old contexts.old steps.old
         prev.new decoder.new contexts.new steps.new }
 {
@@ -176,7 +176,7 @@ fn read_bits<L: Ledger>(
     ensures value { IfRead (λ r. result
         ≡ value_of_bits (drop (length r.bits) (read_more prev_of count decoder.old.bytes r).bits))
         prev.old decoder.old contexts.old steps.old }
-    ensures reads { GoesOn (λ r. read_more prev_of count decoder.old.bytes r)
+    ensures reads { ReadsOn (λ r. read_more prev_of count decoder.old.bytes r)
         prev.old decoder.old contexts.old steps.old
         prev.new decoder.new contexts.new steps.new }
 {

@@ -4,7 +4,7 @@ use Rattle.std.specs.Prelude.{if◌then◌else◌}
 use Rattle.std.specs.List.{list_all}
 use Rattle.std.specs.Str.Parse.{AllDigits, IsNumeral}
 use Rattle.jbig2_commands.specs.inner.RequestViews.{HasIndex}
-use Rattle.jbig2_commands.specs.Words.{Task, Pages, Embedded, Calls, Pbm, is_strict, is_pages, is_embedded, is_calls, is_pbm, is_digit, is_index, whole_task, page_task, task_of, request_of}
+use Rattle.jbig2_commands.specs.Words.{Task, Pages, Embedded, Calls, Pbm, is_strict_word, is_pages, is_embedded, is_calls, is_pbm, is_digit, is_index, whole_task, page_task, task_of, request_of}
 
 both : (a b : Bool) → (a && b) ≡ true → (a ≡ true) × (b ≡ true)
 both true b e = (refl, e)
@@ -81,4 +81,4 @@ either_mode false long short r l h e = with_mode false short r h e
 
 pub request_named : (words : List (List ℕ)) (r : Bool × Task × List ℕ) → request_of words ≡ Some r → HasIndex r.1
 request_named [] r e = absurd (let never : (let o : Option (Bool × Task × List ℕ) = None in o) ≡ Some r = e in cc)
-request_named (first ∷ others) r e = either_mode (is_strict first) (task_of others) (task_of (first ∷ others)) r (task_named others) (task_named (first ∷ others)) e
+request_named (first ∷ others) r e = either_mode (is_strict_word first) (task_of others) (task_of (first ∷ others)) r (task_named others) (task_named (first ∷ others)) e

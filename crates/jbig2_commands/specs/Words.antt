@@ -5,8 +5,8 @@ use Rattle.std.specs.Prelude.{option_map, if◌then◌else◌, codes}
 use Rattle.std.specs.List.{list_all}
 use Rattle.std.specs.Str.{bytes_eq}
 
-unfoldable pub is_strict : List ℕ → Bool
-is_strict word = bytes_eq word (codes "--strict")
+unfoldable pub is_strict_word : List ℕ → Bool
+is_strict_word word = bytes_eq word (codes "--strict")
 
 unfoldable pub is_pages : List ℕ → Bool
 is_pages word = bytes_eq word (codes "pages")
@@ -50,4 +50,4 @@ task_of _ = None
 abbrev pub request_of : List (List ℕ) → Option (Bool × Task × List ℕ)
 request_of [] = None
 request_of (first ∷ others) =
-    if is_strict first then option_map (λ t. (true, t.0, t.1)) (task_of others) else option_map (λ t. (false, t.0, t.1)) (task_of (first ∷ others))
+    if is_strict_word first then option_map (λ t. (true, t.0, t.1)) (task_of others) else option_map (λ t. (false, t.0, t.1)) (task_of (first ∷ others))

@@ -2,7 +2,7 @@
 ghost use Rattle.std.specs.Prelude.{◌≡◌, map, option_map};
 ghost use Rattle.std.specs.List.{list_all};
 ghost use Rattle.jbig2_commands.specs.inner.RequestViews.{task_view, request_view};
-ghost use Rattle.jbig2_commands.specs.Words.{is_strict, is_pages, is_embedded, is_calls, is_pbm, is_digit, is_index, whole_task, page_task, task_of, request_of};
+ghost use Rattle.jbig2_commands.specs.Words.{is_strict_word, is_pages, is_embedded, is_calls, is_pbm, is_digit, is_index, whole_task, page_task, task_of, request_of};
 
 /// One run of the program.
 #[derive(Clone, Copy, Debug, PartialEq, Eq)]
@@ -27,9 +27,9 @@ pub enum Command<'w> {
     Pbm(&'w str),
 }
 
-#[tactic(auto, unfolding(crate::specs::Words::is_strict))]
-fn is_strict(word: &str) -> bool
-    ensures { result ≡ is_strict word.now }
+#[tactic(auto, unfolding(crate::specs::Words::is_strict_word))]
+fn is_strict_word(word: &str) -> bool
+    ensures { result ≡ is_strict_word word.now }
 {
     word == "--strict"
 }
@@ -124,7 +124,7 @@ impl<'w> Request<'w> {
         ensures { option_map request_view result ≡ request_of (map (λ word. word.now) words.now) }
     {
         let (strict, words) = match words {
-            [first, others @ ..] if is_strict(first) => (true, others),
+            [first, others @ ..] if is_strict_word(first) => (true, others),
             _ => (false, words),
         };
         let (command, file) = task_of(words)?;

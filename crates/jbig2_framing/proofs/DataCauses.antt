@@ -8,7 +8,7 @@ use Rattle.jbig2_base.specs.Causes.{HasCause, number_in}
 use Rattle.jbig2_framing.specs.Causes.{BreaksData}
 use Rattle.jbig2_base.specs.Fields.{bytes_at, end_of_bytes}
 use Rattle.jbig2_base.specs.Search.{place_from}
-use Rattle.jbig2_framing.specs.Segment.{adaptive_bytes, data_at, first_end_marker, is_end_marker, unknown_length_of}
+use Rattle.jbig2_framing.specs.Segment.{adaptive_byte_count, data_at, first_end_marker, is_end_marker, unknown_length_of}
 use Rattle.jbig2_base.specs.declared.error.DecodeError.{DecodeError}
 use Rattle.jbig2_base.specs.declared.error.DecodeError.TheVariants.{Segment}
 use Rattle.jbig2_base.specs.declared.error.SegmentError.TheVariants.{MissingEndMarker}
@@ -23,7 +23,7 @@ end_marker flags = cond (eqb (flags % 2) 1) (0 ∷ 0 ∷ []) (255 ∷ 172 ∷ []
 
 -- the place after a generic region's fields
 abbrev coded_place : List ℕ → ℕ
-coded_place bytes = 18 + adaptive_bytes (number_in w8 17 bytes)
+coded_place bytes = 18 + adaptive_byte_count (number_in w8 17 bytes)
 
 marker-by : (mmr : Bool) (a b : ℕ) → a ∷ b ∷ [] ≡ cond mmr (0 ∷ 0 ∷ []) (255 ∷ 172 ∷ []) → cond mmr (eqb a 0 && eqb b 0) (eqb a 255 && eqb b 172) ≡ true
 marker-by true a b same = and_from (eqb a 0) (eqb b 0) (eq-eqb a 0 (ap (λ (l : List ℕ). slice_index l 0) same)) (eq-eqb b 0 (ap (λ (l : List ℕ). slice_index l 1) same))
@@ -65,7 +65,7 @@ unknown-result P bytes why =
     let short : length bytes < place → P end_of_bytes = λ cut. why end_of_bytes cut in
     next-bytes R P 17 bytes 0 _ (omega arith) (λ cut. short (omega (arith, cut))) (λ at_flags.
     next-number R P w8 bytes 17 _ at_flags (λ cut. short (omega (arith, cut))) (λ at_pixels.
-    next-bytes R P (adaptive_bytes flags) bytes 18 _ at_pixels short (λ at_coded.
+    next-bytes R P (adaptive_byte_count flags) bytes 18 _ at_pixels short (λ at_coded.
     result-next (λ (p : ℕ). p + 6 ≤ length (drop place bytes)) R P (first_end_marker flags (drop place bytes)) _
     (marker-result P flags (drop place bytes) (λ none. why (Segment MissingEndMarker) (no-marker bytes flags place none))) (λ p fits.
     omega (arith, fits, at_coded, length-drop place bytes)))))

@@ -6,7 +6,7 @@ use Rattle.std.specs.List.{list_any}
 use Rattle.std.specs.Prelude.{nat_le}
 use Rattle.jbig2_base.specs.Results.{◌>>=◌, refuse_if}
 use Rattle.jbig2_base.specs.Fields.{bytes_at, number_at}
-use Rattle.jbig2_framing.specs.Segment.{adaptive_bytes, count_at, first_end_marker, number_width, numbers_in, referred_at, unknown_length_of}
+use Rattle.jbig2_framing.specs.Segment.{adaptive_byte_count, count_at, first_end_marker, number_width, numbers_in, referred_at, unknown_length_of}
 use Rattle.jbig2_framing.specs.inner.Fronts.{coded_front_at}
 use Rattle.jbig2_base.specs.declared.error.DecodeError.{DecodeError}
 use Rattle.jbig2_base.specs.declared.error.DecodeError.TheVariants.{Segment}
@@ -56,12 +56,12 @@ step_3 (Ok a) s t u k = step_2 (s a) t u k
 step_3 (Err e) s t u k = refl
 
 abbrev unknown_after : ℕ × List ℕ → Result ℕ DecodeError
-unknown_after front = first_end_marker front.0 front.1 >>= λ place. Ok (18 + adaptive_bytes front.0 + place + 6)
+unknown_after front = first_end_marker front.0 front.1 >>= λ place. Ok (18 + adaptive_byte_count front.0 + place + 6)
 
-pub unknown_by : (bytes : List ℕ) (r : Result (ℕ × List ℕ) DecodeError) → coded_front_at bytes ≡ r → unknown_length_of bytes ≡ (r >>= λ front. first_end_marker front.0 front.1 >>= λ place. Ok (18 + adaptive_bytes front.0 + place + 6))
+pub unknown_by : (bytes : List ℕ) (r : Result (ℕ × List ℕ) DecodeError) → coded_front_at bytes ≡ r → unknown_length_of bytes ≡ (r >>= λ front. first_end_marker front.0 front.1 >>= λ place. Ok (18 + adaptive_byte_count front.0 + place + 6))
 unfolding unknown_length_of coded_front_at
 unknown_by bytes r is =
-    sym (step_3 (bytes_at 17 bytes) (λ i. number_at w8 i.1) (λ f. bytes_at (adaptive_bytes f.0) f.1) (λ f p. (f.0, p.1)) unknown_after)
+    sym (step_3 (bytes_at 17 bytes) (λ i. number_at w8 i.1) (λ f. bytes_at (adaptive_byte_count f.0) f.1) (λ f p. (f.0, p.1)) unknown_after)
     ∙ ap (λ (x : Result (ℕ × List ℕ) DecodeError). x >>= unknown_after) is
 
 pub unknown_refused : (bytes start : List ℕ) (e : DecodeError) → start ≡ bytes → coded_front_at start ≡ Err e → unknown_length_of bytes ≡ Err e
@@ -70,10 +70,10 @@ unknown_refused bytes start e same is = unknown_by bytes (Err e) (ap coded_front
 pub unknown_unmarked : (bytes start rest tail : List ℕ) (flags : ℕ) (e : DecodeError) → start ≡ bytes → coded_front_at start ≡ Ok (flags, rest) → tail ≡ rest → first_end_marker flags tail ≡ Err e → unknown_length_of bytes ≡ Err e
 unknown_unmarked bytes start rest tail flags e same is after none =
     unknown_by bytes (Ok (flags, rest)) (ap coded_front_at (sym same) ∙ is)
-    ∙ ap (λ (r : Result ℕ DecodeError). r >>= λ place. Ok (18 + adaptive_bytes flags + place + 6)) (ap (λ (ys : List ℕ). first_end_marker flags ys) (sym after) ∙ none)
+    ∙ ap (λ (r : Result ℕ DecodeError). r >>= λ place. Ok (18 + adaptive_byte_count flags + place + 6)) (ap (λ (ys : List ℕ). first_end_marker flags ys) (sym after) ∙ none)
 
-pub unknown_marked : (bytes start rest tail : List ℕ) (flags place adaptive : ℕ) → start ≡ bytes → coded_front_at start ≡ Ok (flags, rest) → tail ≡ rest → first_end_marker flags tail ≡ Ok place → adaptive ≡ adaptive_bytes flags → unknown_length_of bytes ≡ Ok (18 + adaptive + place + 6)
+pub unknown_marked : (bytes start rest tail : List ℕ) (flags place adaptive : ℕ) → start ≡ bytes → coded_front_at start ≡ Ok (flags, rest) → tail ≡ rest → first_end_marker flags tail ≡ Ok place → adaptive ≡ adaptive_byte_count flags → unknown_length_of bytes ≡ Ok (18 + adaptive + place + 6)
 unknown_marked bytes start rest tail flags place adaptive same is after found size =
     unknown_by bytes (Ok (flags, rest)) (ap coded_front_at (sym same) ∙ is)
-    ∙ ap (λ (r : Result ℕ DecodeError). r >>= λ p. Ok (18 + adaptive_bytes flags + p + 6)) (ap (λ (ys : List ℕ). first_end_marker flags ys) (sym after) ∙ found)
+    ∙ ap (λ (r : Result ℕ DecodeError). r >>= λ p. Ok (18 + adaptive_byte_count flags + p + 6)) (ap (λ (ys : List ℕ). first_end_marker flags ys) (sym after) ∙ found)
     ∙ ap (λ (n : ℕ). Ok (18 + n + place + 6)) (sym size)

@@ -15,7 +15,7 @@ use Rattle.jbig2_base.specs.declared.error.SegmentError.TheVariants.{UnknownType
 use Rattle.jbig2_base.specs.declared.error.SegmentError.TheVariants.{InvalidReference, InvalidUnknownLength}
 use Rattle.jbig2_base.specs.declared.error.SegmentError.TheVariants.{MissingEndMarker}
 use Rattle.jbig2_framing.specs.File.{identification}
-use Rattle.jbig2_framing.specs.Segment.{SegmentView, adaptive_bytes, number_width}
+use Rattle.jbig2_framing.specs.Segment.{SegmentView, adaptive_byte_count, number_width}
 use Rattle.jbig2_framing.specs.declared.segment.SegmentType.TheVariants as types
 
 -- A file header (D.4) has thirteen bytes. If bit 1 of byte 8 is set, it states no page count and has nine.
@@ -111,9 +111,9 @@ BreaksHeader strict bytes _ = ⊥
 -- must be there, and after them the end marker with four more bytes.
 abbrev pub BreaksData : Option ℕ → List ℕ → DecodeError → Type 0
 BreaksData (Some n) bytes (Parse UnexpectedEof) = length bytes < n
-BreaksData None bytes (Parse UnexpectedEof) = length bytes < 18 + adaptive_bytes (number_in w8 17 bytes)
+BreaksData None bytes (Parse UnexpectedEof) = length bytes < 18 + adaptive_byte_count (number_in w8 17 bytes)
 BreaksData None bytes (Segment MissingEndMarker) =
     let flags = number_in w8 17 bytes in
-    (k : ℕ) → 18 + adaptive_bytes flags ≤ k → k + 6 ≤ length bytes
+    (k : ℕ) → 18 + adaptive_byte_count flags ≤ k → k + 6 ≤ length bytes
     → take 2 (drop k bytes) ≢ (if flags % 2 == 1 then 0 ∷ 0 ∷ [] else 255 ∷ 172 ∷ [])
 BreaksData _ bytes _ = ⊥

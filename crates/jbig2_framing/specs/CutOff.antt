@@ -16,15 +16,15 @@ use Rattle.jbig2_framing.specs.declared.file_header.FileOrganization.{FileOrgani
 use Rattle.jbig2_framing.specs.declared.file_header.FileOrganization.TheVariants.{Sequential, RandomAccess}
 use Rattle.jbig2_framing.specs.declared.reading.Reading.{Reading}
 
-abbrev pub value_of : {X : Type 0} → Result (X × List ℕ) DecodeError → Option X  -- what is read, unless it is refused
-value_of (Ok (x, rest)) = Some x
-value_of (Err e) = None
+abbrev pub read_value : {X : Type 0} → Result (X × List ℕ) DecodeError → Option X  -- what is read, unless it is refused
+read_value (Ok (x, rest)) = Some x
+read_value (Err e) = None
 
 -- The segment whose header begins at these bytes. Its number (7.2.2) and its page (7.2.6) are known if they are there.
 abbrev pub cut_off_at : Bool → List ℕ → DecodeError → CutOff
 cut_off_at strict bytes e = record {
-  segment_number = value_of (number_at w32 bytes);
-  page_association = option_map (λ h. h.page_association) (value_of (header_at strict bytes));
+  segment_number = read_value (number_at w32 bytes);
+  page_association = option_map (λ h. h.page_association) (read_value (header_at strict bytes));
   error = e;
 }
 

@@ -126,8 +126,8 @@ header_at strict bytes = do
     rest,
   )
 
-abbrev pub adaptive_bytes : ℕ → ℕ  -- how many bytes a generic region's adaptive pixels have, by its flags (7.4.6.3)
-adaptive_bytes flags =
+abbrev pub adaptive_byte_count : ℕ → ℕ  -- how many bytes a generic region's adaptive pixels have, by its flags (7.4.6.3)
+adaptive_byte_count flags =
     if flags % 2 == 1 then 0 else if flags / 2 % 4 == 0 then (if flags / 16 % 2 == 1 then 24 else 8) else 2
 
 -- whether the bytes begin with the end marker that the region's flags ask for, and a row count of four bytes after it
@@ -146,9 +146,9 @@ unfoldable pub unknown_length_of : List ℕ → Result ℕ DecodeError
 unknown_length_of bytes = do
   (information, rest) ← bytes_at 17 bytes
   (flags, rest) ← number_at w8 rest
-  (pixels, rest) ← bytes_at (adaptive_bytes flags) rest
+  (pixels, rest) ← bytes_at (adaptive_byte_count flags) rest
   place ← first_end_marker flags rest
-  Ok (18 + adaptive_bytes flags + place + 6)
+  Ok (18 + adaptive_byte_count flags + place + 6)
 
 abbrev pub data_at : Option ℕ → List ℕ → Result (List ℕ × List ℕ) DecodeError  -- the data after a header (7.2.7)
 data_at (Some n) bytes = bytes_at n bytes

@@ -1,7 +1,7 @@
 //! The segment at which a list of segments ends early.
 ghost use Rattle.std.specs.Prelude.{◌≡◌, Ok, option_map};
 ghost use Rattle.jbig2_base.specs.Results.{Gives};
-ghost use Rattle.jbig2_framing.specs.CutOff.{cut_off_at, value_of};
+ghost use Rattle.jbig2_framing.specs.CutOff.{cut_off_at, read_value};
 ghost use Rattle.jbig2_framing.specs.Segment.{header_at};
 
 use crate::segment::{SegmentHeader, parse_segment_header};
@@ -25,7 +25,7 @@ pub struct CutOff {
 /// The page association of the header at the reader's place, if that can be read.
 fn association_at<A: Allocator>(alloc: A, reader: &Reader<'_>, strict: bool) -> Result<Option<u32>>
     ensures { Gives (λ page. page) result
-        (Ok (option_map (λ h. h.page_association) (value_of (header_at strict reader.now.bytes)))) }
+        (Ok (option_map (λ h. h.page_association) (read_value (header_at strict reader.now.bytes)))) }
 {
     match parse_segment_header(alloc, &mut reader.duplicate(), strict) {
         Ok(header) => Ok(Some(header.page_association)),

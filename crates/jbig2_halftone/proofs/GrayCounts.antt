@@ -20,7 +20,7 @@ use Rattle.jbig2_region.specs.declared.template.Template.{Template}
 use Rattle.jbig2_region.specs.declared.template.Template.TheVariants.{Template0, Template1, Template2, Template3}
 use Rattle.jbig2_halftone.specs.GrayScale.{GrayScale, after_planes}
 use Rattle.jbig2_halftone.specs.Steps.{CountsImage, CountsLanes, CountsMasked, CountsPlanes, CountsRead, StopsImage, TakesLanes, plane_runs, taking_loads, words_of_plane}
-use Rattle.jbig2_halftone.specs.inner.FunctionResults.{CountsCoded, CountsMmr, CountsOne, CountsPlane, MovesByMmr, StopsCoded, StopsMmr, plain_coding, plane_pixels, plane_start, after_lane_rows}
+use Rattle.jbig2_halftone.specs.inner.FunctionResults.{CountsCoded, CountsMmr, CountsOne, CountsPlane, MovesByMmr, StopsCoded, StopsMmr, plain_coding, plane_pixels, coded_plane_start, after_lane_rows}
 use Rattle.jbig2_halftone.proofs.PlaneLemmas.{AfterPlanes, no-mask}
 use Rattle.jbig2_halftone.proofs.RowLemmas.{counts-start}
 use Rattle.jbig2_region.proofs.PlaceCounts.{how_many-all}
@@ -74,11 +74,11 @@ planes-begin : (p : GrayScale) (bytes : List ℕ) (steps : Counts) → CountsPla
 unfolding plane_runs
 planes-begin p bytes steps = record { empty = λ _. refl; decisions = λ _. omega arith; run_tests = omega arith; words = omega arith; loads = omega arith }
 
-planes-more : (p : GrayScale) (bytes : List ℕ) (i : ℕ) (old mid read new : Counts) → CountsPlanes p bytes i (i * taking_loads p) old mid → CountsPlane p p.width p.height bytes (plane_start p bytes i) mid read → new ≡ after_lane_rows p.height p.width read → CountsPlanes p bytes (i + 1) ((i + 1) * taking_loads p) old new
+planes-more : (p : GrayScale) (bytes : List ℕ) (i : ℕ) (old mid read new : Counts) → CountsPlanes p bytes i (i * taking_loads p) old mid → CountsPlane p p.width p.height bytes (coded_plane_start p bytes i) mid read → new ≡ after_lane_rows p.height p.width read → CountsPlanes p bytes (i + 1) ((i + 1) * taking_loads p) old new
 unfolding plane_runs
 planes-more p bytes i old mid read new before one taken =
-    let runs : plane_runs p bytes (i + 1) ≡ plane_runs p bytes i + coded_runs (plane_pixels p) true (plain_coding p) p.width p.height bytes (plane_start p bytes i) = rw add-one refl in
-    let coded = all-coded (plane_pixels p) p.template p.width p.height bytes (plane_start p bytes i) refl in
+    let runs : plane_runs p bytes (i + 1) ≡ plane_runs p bytes i + coded_runs (plane_pixels p) true (plain_coding p) p.width p.height bytes (coded_plane_start p bytes i) = rw add-one refl in
+    let coded = all-coded (plane_pixels p) p.template p.width p.height bytes (coded_plane_start p bytes i) refl in
     let none : p.width * p.height * 0 ≡ 0 = omega arith in
     record {
       empty = λ none. taken ∙ taken-empty p.height p.width read none ∙ one.empty none ∙ before.empty none;

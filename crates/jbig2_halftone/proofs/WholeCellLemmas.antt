@@ -20,7 +20,7 @@ use Rattle.jbig2_region.specs.declared.template.Template.TheVariants.{Template0,
 use Rattle.jbig2_halftone.specs.GrayScale.{GrayScale, after_planes, gray_contexts, gray_scale_image, image_is_too_large, mmr_plane}
 use Rattle.jbig2_halftone.specs.HalftoneHeader.{HalftoneHeader}
 use Rattle.jbig2_halftone.specs.WholeCells.{mmr_left, whole_image_rows}
-use Rattle.jbig2_halftone.specs.inner.FunctionResults.{coded_rows, mmr_rows_left, plane_coding, plane_start}
+use Rattle.jbig2_halftone.specs.inner.FunctionResults.{whole_coded_rows, mmr_rows_left, plane_coding, coded_plane_start}
 use Rattle.jbig2_halftone.proofs.HalftoneLemmas.{plane-lenient, values-sized}
 use Rattle.jbig2_halftone.proofs.PlaneLemmas.{AfterPlanes}
 use Rattle.jbig2_halftone.proofs.RowLemmas.{take-some}
@@ -64,7 +64,7 @@ mmr-most w h bytes =
 pub image-rows-most : (p : GrayScale) (bytes : List ℕ) → whole_image_rows p bytes ≤ p.height
 image-rows-most p bytes =
     let count : ℕ = p.bits_per_pixel - 1 in
-    most (p.bits_per_pixel == 0 || p.width == 0) p.use_mmr (mmr_rows_left p bytes count) (coded_rows p bytes count) (mmr-most p.width p.height (mmr_left p bytes count)) (whole-most (plane_coding p) (source p.width p.height bytes (plane_start p bytes count)) p.height)
+    most (p.bits_per_pixel == 0 || p.width == 0) p.use_mmr (mmr_rows_left p bytes count) (whole_coded_rows p bytes count) (mmr-most p.width p.height (mmr_left p bytes count)) (whole-most (plane_coding p) (source p.width p.height bytes (coded_plane_start p bytes count)) p.height)
   where
     most : (none mmr : Bool) (by_mmr coded : ℕ) → by_mmr ≤ p.height → coded ≤ p.height → (if none then p.height else if mmr then by_mmr else coded) ≤ p.height
     most true mmr by_mmr coded a b = omega arith
@@ -73,7 +73,7 @@ image-rows-most p bytes =
 
 -- ---- the last plane, by the coder
 pub last-counted : (p : GrayScale) (adaptive : List AdaptiveTemplatePixel) (input : List ℕ) (i : ℕ) (plane : Grid) (coder : Coder) (states : List Context) (rows : ℕ) → plane ≡ blank p.width p.height false → AfterPlanes p input i coder states → adaptive ≡ nominal_adaptive_pixels p.template
-    → rows ≡ whole_rows (masked_coding false p.template (template_pixels false p.template adaptive) p.skip_mask) (source plane.width plane.height coder.bytes (no_pixels coder.registers states)) plane.height → rows ≡ coded_rows p input i
+    → rows ≡ whole_rows (masked_coding false p.template (template_pixels false p.template adaptive) p.skip_mask) (source plane.width plane.height coder.bytes (no_pixels coder.registers states)) plane.height → rows ≡ whole_coded_rows p input i
 last-counted p adaptive input i plane coder states rows white after nominal counted =
     counted
     ∙ ap (λ (a : List AdaptiveTemplatePixel). whole_rows (masked_coding false p.template (template_pixels false p.template a) p.skip_mask) (source plane.width plane.height coder.bytes (no_pixels coder.registers states)) plane.height) nominal

@@ -4,8 +4,8 @@ use Rattle.std.proofs.lemmas.Bool.{cases_eq, cond_both, cond-false, cond-true, e
 use Rattle.std.proofs.Math.Nat.{le_trans, mul-le-mul_right, pow-suc}
 use Rattle.std.proofs.lemmas.List.{length-reverse}
 use Rattle.jbig2_coder.specs.Coder.{Context, fresh, likely_next, unlikely_next}
-use Rattle.jbig2_coder.specs.Table.{row_of}
-use Rattle.jbig2_coder.specs.Encoder.{Writer, Coding, Narrowed, initial_coding, eight_bits_out, seven_bits_out, byte_out, shift_once, renorme, narrowed_likely, narrowed_unlikely, narrowed_interval, encoding, set_bits, flush_coder, is_full, with_marker, with_context, encode_from, encoded_bytes}
+use Rattle.jbig2_coder.specs.Table.{qe_row}
+use Rattle.jbig2_coder.specs.Encoder.{Writer, EncoderState, Narrowed, initial_coding, eight_bits_out, seven_bits_out, byte_out, shift_once, renorme, narrowed_likely, narrowed_unlikely, narrowed_interval, encoding, set_bits, flush_coder, is_full, with_marker, with_context, encode_from, encoded_bytes}
 use Rattle.jbig2_inverses.specs.CoderStates.{Entry, CodedDataIsShort}
 use Rattle.jbig2_inverses.proofs.RowCredits.{costs, credit, first-credit}
 
@@ -63,7 +63,7 @@ shifted k w a =
     (λ e. let more = eqb-false (w.wait - 1) 0 e in record { some = omega (arith, some, more); few = omega (arith, few); bytes = omega (arith, bytes, some) })
 
 -- RENORME, of an interval that m shifts make long enough
-record Renormed (k : ℕ) (s : Coding) : Type 0 where
+record Renormed (k : ℕ) (s : EncoderState) : Type 0 where
   after : After k s.writer
   range : 0x8000 ≤ s.range
 
@@ -72,38 +72,38 @@ unfolding renorme
 renormed zero zero k a w fits long is = record { after = later k (k + 0) w (omega arith) is; range = omega (arith, long) }
 renormed zero (suc m) k a w fits long is = absurd (omega (arith, fits))
 renormed (suc n) zero k a w fits long is =
-    cond_both (ltb a 0x8000) (renorme n (2 * a) (shift_once w)) (record { range = a; writer = w }) (λ (s : Coding). Renormed (k + 0) s)
+    cond_both (ltb a 0x8000) (renorme n (2 * a) (shift_once w)) (record { range = a; writer = w }) (λ (s : EncoderState). Renormed (k + 0) s)
     (λ e. let small = ltb-true a 0x8000 e in absurd (omega (arith, small, long)))
     (λ e. record { after = later k (k + 0) w (omega arith) is; range = ltb-false a 0x8000 e })
 renormed (suc n) (suc m) k a w fits long is =
     let same : k + 1 + m ≡ k + suc m = omega arith in
     let doubled : 2 * a * 2 ^ m ≡ a * 2 ^ suc m = rw (pow-suc 2 m) (omega arith) in
     let more = renormed n m (k + 1) (2 * a) (shift_once w) (omega (arith, fits)) (subst (λ (x : ℕ). 0x8000 ≤ x) (sym doubled) long) (shifted k w is) in
-    cond_both (ltb a 0x8000) (renorme n (2 * a) (shift_once w)) (record { range = a; writer = w }) (λ (s : Coding). Renormed (k + suc m) s)
+    cond_both (ltb a 0x8000) (renorme n (2 * a) (shift_once w)) (record { range = a; writer = w }) (λ (s : EncoderState). Renormed (k + suc m) s)
     (λ e. subst (λ (j : ℕ). Renormed j (renorme n (2 * a) (shift_once w))) same more)
     (λ e. record { after = later k (k + suc m) w (omega arith) is; range = ltb-false a 0x8000 e })
 
 -- A decision in a context takes at most six shifts, and what the context's row is worth more than the next one.
-record Coded (k worth : ℕ) (s : Coding) (next : Context) : Type 0 where
+record Coded (k worth : ℕ) (s : EncoderState) (next : Context) : Type 0 where
   shifts : ℕ
   renormed : Renormed (k + shifts) s
   paid : shifts + credit next.row ≤ 6 + worth
 
-abbrev end_of : Coding → Narrowed → Coding
+abbrev end_of : EncoderState → Narrowed → EncoderState
 end_of s next =
     let writer : Writer = record s.writer { register = next.register } in
     cond next.renorm (renorme 15 next.range writer) (record { range = next.range; writer = writer })
 
-abbrev CodedBy : ℕ → Context → Coding → Narrowed → Type 0
+abbrev CodedBy : ℕ → Context → EncoderState → Narrowed → Type 0
 CodedBy k x s next = Coded k (credit x.row) (end_of s next) next.context
 
-moved : (k c : ℕ) (s : Coding) → After k s.writer → After k (record s.writer { register = c })
+moved : (k c : ℕ) (s : EncoderState) → After k s.writer → After k (record s.writer { register = c })
 moved k c s is = record { some = is.some; few = is.few; bytes = is.bytes }
 
-by-likely : (k : ℕ) (x : Context) (s : Coding) → 0x8000 ≤ s.range → After k s.writer → CodedBy k x s (narrowed_likely x s.range s.writer.register)
+by-likely : (k : ℕ) (x : Context) (s : EncoderState) → 0x8000 ≤ s.range → After k s.writer → CodedBy k x s (narrowed_likely x s.range s.writer.register)
 unfolding narrowed_likely likely_next
 by-likely k x s long is =
-    let qe = (row_of x.row).qe in
+    let qe = (qe_row x.row).qe in
     let rest = s.range - qe in
     let c = s.writer.register in
     let worth = (costs x.row).likely in
@@ -119,10 +119,10 @@ by-likely k x s long is =
     (λ f. let large = ltb-false rest qe f in
     record { shifts = 1; renormed = renormed 15 1 k rest (record s.writer { register = c + qe }) (omega arith) (omega (arith, large, long)) (moved k (c + qe) s is); paid = omega (arith, worth) }))
 
-by-unlikely : (k : ℕ) (x : Context) (s : Coding) → 0x8000 ≤ s.range → After k s.writer → CodedBy k x s (narrowed_unlikely x s.range s.writer.register)
+by-unlikely : (k : ℕ) (x : Context) (s : EncoderState) → 0x8000 ≤ s.range → After k s.writer → CodedBy k x s (narrowed_unlikely x s.range s.writer.register)
 unfolding narrowed_unlikely unlikely_next
 by-unlikely k x s long is =
-    let qe = (row_of x.row).qe in
+    let qe = (qe_row x.row).qe in
     let rest = s.range - qe in
     let c = s.writer.register in
     let cost = costs x.row in
@@ -134,7 +134,7 @@ by-unlikely k x s long is =
     (λ e. record { shifts = n; renormed = renormed 15 n k rest (record s.writer { register = c + qe }) cost.few enough (moved k (c + qe) s is); paid = cost.unlikely })
     (λ e. record { shifts = n; renormed = renormed 15 n k qe (record s.writer { register = c }) cost.few cost.lower (moved k c s is); paid = cost.unlikely })
 
-encoded-one : (x : Context) (decision : Bool) (k : ℕ) (s : Coding) → 0x8000 ≤ s.range → After k s.writer → let next = encoding x decision s in Coded k (credit x.row) next.coding next.context
+encoded-one : (x : Context) (decision : Bool) (k : ℕ) (s : EncoderState) → 0x8000 ≤ s.range → After k s.writer → let next = encoding x decision s in Coded k (credit x.row) next.coding next.context
 unfolding encoding narrowed_interval
 encoded-one x decision k s long is =
     let a = s.range in
@@ -184,7 +184,7 @@ above : List Entry → ℕ
 above [] = 0
 above (e ∷ es) = suc e.0 + above es
 
-encoded-all : (es : List Entry) (n k : ℕ) (s : Coding) (contexts : ℕ → Context) → above es ≤ n → 0x8000 ≤ s.range → After k s.writer
+encoded-all : (es : List Entry) (n k : ℕ) (s : EncoderState) (contexts : ℕ → Context) → above es ≤ n → 0x8000 ≤ s.range → After k s.writer
     → After (k + (worth n contexts + 6 * length es)) (encode_from s contexts es).writer
 unfolding encode_from above
 encoded-all [] n k s contexts all long is = later k (k + (worth n contexts + 6 * 0)) s.writer (omega arith) is
@@ -205,7 +205,7 @@ wide : 0x8000 ≤ initial_coding.range
 unfolding initial_coding
 wide = omega arith
 
-flushed : (s : Coding) → length (flush_coder s).out ≡ length s.writer.out + 2
+flushed : (s : EncoderState) → length (flush_coder s).out ≡ length s.writer.out + 2
 unfolding flush_coder
 flushed s =
     let first = byte_out (set_bits s.range s.writer.register * 2 ^ s.writer.wait) s.writer.out in

@@ -6,7 +6,7 @@ use Rattle.jbig2_coder.specs.Coder.{Context, Decision, fresh, decision}
 use Rattle.jbig2_coder.specs.Encoder.{with_context, decoded_from, read_back, encoded_bytes}
 use Rattle.jbig2_coder.specs.Integers.{Reading, next, read, read_more}
 use Rattle.jbig2_coder.proofs.Inverse.{decodes_back}
-use Rattle.jbig2_inverses.specs.CoderStates.{Entry, asked, State, state_on, state_after, initial_state, Gives, window}
+use Rattle.jbig2_inverses.specs.CoderStates.{Entry, asked, State, state_on, state_after, initial_state, GivesDecisions, window}
 use Rattle.jbig2_inverses.specs.IntegerWriter.{in_contexts}
 
 -- windows
@@ -55,11 +55,11 @@ window-fresh base zero = refl
 window-fresh base (suc count) = ap (λ (cs : List Context). fresh ∷ cs) (window-fresh (base + 1) count)
 
 -- decisions, one after another
-pub gives-first : (bytes : List ℕ) (s : State) (e : Entry) (es : List Entry) → Gives bytes s (e ∷ es) → (decision bytes s.registers (s.contexts e.0)).symbol ≡ e.1
+pub gives-first : (bytes : List ℕ) (s : State) (e : Entry) (es : List Entry) → GivesDecisions bytes s (e ∷ es) → (decision bytes s.registers (s.contexts e.0)).symbol ≡ e.1
 unfolding decoded_from
 gives-first bytes s e es g = ap (λ (ds : List Bool). get_or ds 0 false) g
 
-pub gives-next : (bytes : List ℕ) (s : State) (e : Entry) (es : List Entry) → Gives bytes s (e ∷ es) → Gives bytes (state_on bytes s e.0) es
+pub gives-next : (bytes : List ℕ) (s : State) (e : Entry) (es : List Entry) → GivesDecisions bytes s (e ∷ es) → GivesDecisions bytes (state_on bytes s e.0) es
 unfolding decoded_from state_on
 gives-next bytes s e es g = ap (λ (ds : List Bool). drop 1 ds) g
 
@@ -71,12 +71,12 @@ pub after-none : (bytes : List ℕ) (s : State) → state_after bytes s [] ≡ s
 unfolding state_after
 after-none bytes s = refl
 
-pub gives-after : (bytes : List ℕ) (s : State) (xs ys : List Entry) → Gives bytes s (xs ++ ys) → Gives bytes (state_after bytes s (asked xs)) ys
+pub gives-after : (bytes : List ℕ) (s : State) (xs ys : List Entry) → GivesDecisions bytes s (xs ++ ys) → GivesDecisions bytes (state_after bytes s (asked xs)) ys
 unfolding state_after
 gives-after bytes s [] ys g = g
 gives-after bytes s (x ∷ xs) ys g = gives-after bytes (state_on bytes s x.0) xs ys (gives-next bytes s x (xs ++ ys) g)
 
-pub gives-before : (bytes : List ℕ) (s : State) (xs ys : List Entry) → Gives bytes s (xs ++ ys) → Gives bytes s xs
+pub gives-before : (bytes : List ℕ) (s : State) (xs ys : List Entry) → GivesDecisions bytes s (xs ++ ys) → GivesDecisions bytes s xs
 unfolding decoded_from state_on
 gives-before bytes s [] ys g = refl
 gives-before bytes s (x ∷ xs) ys g =
@@ -89,17 +89,17 @@ unfolding state_after
 after-append bytes s [] ys = refl
 after-append bytes s (x ∷ xs) ys = after-append bytes (state_on bytes s x.0) xs ys
 
-pub gives-encoded : (es : List Entry) → Gives (encoded_bytes es) (initial_state (encoded_bytes es)) es
+pub gives-encoded : (es : List Entry) → GivesDecisions (encoded_bytes es) (initial_state (encoded_bytes es)) es
 unfolding read_back
 gives-encoded es = decodes_back es
 
 pub gives-amid : (bytes : List ℕ) (before middle after : List Entry) → bytes ≡ encoded_bytes (before ++ middle ++ after)
-    → Gives bytes (state_after bytes (initial_state bytes) (asked before)) middle
+    → GivesDecisions bytes (state_after bytes (initial_state bytes) (asked before)) middle
 gives-amid bytes before middle after e =
     let es = before ++ middle ++ after in
-    let all : Gives bytes (initial_state bytes) es = subst (λ (b : List ℕ). Gives b (initial_state b) es) (sym e) (gives-encoded es) in
+    let all : GivesDecisions bytes (initial_state bytes) es = subst (λ (b : List ℕ). GivesDecisions b (initial_state b) es) (sym e) (gives-encoded es) in
     let split : before ++ middle ++ after ≡ before ++ (middle ++ after) = append_assoc before middle after in
-    let turned : Gives bytes (initial_state bytes) (before ++ (middle ++ after)) = subst (λ (xs : List Entry). Gives bytes (initial_state bytes) xs) split all in
+    let turned : GivesDecisions bytes (initial_state bytes) (before ++ (middle ++ after)) = subst (λ (xs : List Entry). GivesDecisions bytes (initial_state bytes) xs) split all in
     gives-before bytes (state_after bytes (initial_state bytes) (asked before)) middle after (gives-after bytes (initial_state bytes) before (middle ++ after) turned)
 
 -- readings bit by bit
@@ -122,11 +122,11 @@ module _ (name : List Bool → ℕ) (base count limit : ℕ) where
       ap (λ (z : Decision). record { bits = bits ++ z.symbol ∷ []; registers = z.registers; contexts = set (window base count s.contexts) (name bits) z.context }) (next-is bytes bits s h)
       ∙ ap (λ (cs : List Context). record { bits = bits ++ d.symbol ∷ []; registers = d.registers; contexts = cs }) (window-set base count (name bits) s.contexts d.context h)
 
-  pub next-gives : (bytes : List ℕ) (bits : List Bool) (s : State) (d : Bool) (es : List Entry) → name bits < count → Gives bytes s ((base + name bits, d) ∷ es)
+  pub next-gives : (bytes : List ℕ) (bits : List Bool) (s : State) (d : Bool) (es : List Entry) → name bits < count → GivesDecisions bytes s ((base + name bits, d) ∷ es)
       → (next name bytes (reading_at bits s)).symbol ≡ d
   next-gives bytes bits s d es h g = ap (λ (z : Decision). z.symbol) (next-is bytes bits s h) ∙ gives-first bytes s (base + name bits, d) es g
 
-  pub read-gives : (bytes : List ℕ) (bits : List Bool) (s : State) (d : Bool) (es : List Entry) → name bits < count → Gives bytes s ((base + name bits, d) ∷ es)
+  pub read-gives : (bytes : List ℕ) (bits : List Bool) (s : State) (d : Bool) (es : List Entry) → name bits < count → GivesDecisions bytes s ((base + name bits, d) ∷ es)
       → read name bytes (reading_at bits s) ≡ reading_at (bits ++ d ∷ []) (state_on bytes s (base + name bits))
   read-gives bytes bits s d es h g =
       read-is bytes bits s h
@@ -146,7 +146,7 @@ module _ (name : List Bool → ℕ) (base count limit : ℕ) where
   more-none bytes r = refl
 
   pub more-gives : (ds : List Bool) (bytes : List ℕ) (bits : List Bool) (s : State) → Bound → length bits + length ds ≤ limit
-      → Gives bytes s (in_contexts name base bits ds)
+      → GivesDecisions bytes s (in_contexts name base bits ds)
       → read_more name (length ds) bytes (reading_at bits s) ≡ reading_at (bits ++ ds) (state_after bytes s (asked (in_contexts name base bits ds)))
   unfolding in_contexts
   more-gives [] bytes bits s bound h g =

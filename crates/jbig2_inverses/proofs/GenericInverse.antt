@@ -17,7 +17,7 @@ use Rattle.jbig2_region.specs.Raster.{Coding, Region, so_far, no_pixels, decoded
 use Rattle.jbig2_region.specs.Templates.{FitsTemplate, context_bits, row_context, template_pixels}
 use Rattle.jbig2_region.specs.Generic.{generic_coding, generic_region, generic_grid, generic_result}
 use Rattle.jbig2_region.proofs.ContextLemmas.{context-lt}
-use Rattle.jbig2_inverses.specs.CoderStates.{Entry, State, initial_state, Gives}
+use Rattle.jbig2_inverses.specs.CoderStates.{Entry, State, initial_state, GivesDecisions}
 use Rattle.jbig2_inverses.specs.BitmapWriter.{mmr_bytes}
 use Rattle.jbig2_inverses.specs.RegionWriter.{pixels_before, entries_before, IsCodable, row_above, same_rows, is_typical, generic_entries, GenericRegionsReadBack}
 use Rattle.jbig2_inverses.proofs.CoderStates.{gives-encoded, window-fresh}
@@ -151,7 +151,7 @@ module _ (h : GenericHeader) (pixels : ℕ → ℕ → Bool) where
       let s : State = initial_state h.bytes in
       let count = 2 ^ context_bits h.template in
       let source : encoded_bytes entries ≡ h.bytes = sym (e ∙ ap encoded_bytes entries-are) in
-      let gives : Gives h.bytes s entries = subst (λ (b : List ℕ). Gives b (initial_state b) entries) source (gives-encoded entries) in
+      let gives : GivesDecisions h.bytes s entries = subst (λ (b : List ℕ). GivesDecisions b (initial_state b) entries) source (gives-encoded entries) in
       let read = regions_read_back (generic_coding h) w rows pixels typical 0 count (codable fits) h.bytes s gives in
       let start = ap (λ (cs : List Context). decoded_region (generic_coding h) w rows h.bytes (no_pixels s.registers cs)) (sym (window-fresh 0 count)) in
       let grid : generic_grid h ≡ grid_of w rows pixels = grid-by ∙ ap (λ (r : Region). so_far w rows r.pixels) (region-is ∙ start ∙ read.0) ∙ read.1 in

@@ -5,7 +5,7 @@ use Rattle.std.proofs.lemmas.List.{drop_at}
 use Rattle.jbig2_coder.specs.Coder.{Context, Registers}
 use Rattle.jbig2_coder.specs.Encoder.{encoded_bytes}
 use Rattle.jbig2_coder.specs.Integers.{Reading, Range, ranges, next, read, read_more, next_range, prev_of, value_of_bits, signed_number, value_of, integer, Ids, id}
-use Rattle.jbig2_inverses.specs.CoderStates.{Entry, asked, State, state_on, state_after, initial_state, Gives, window}
+use Rattle.jbig2_inverses.specs.CoderStates.{Entry, asked, State, state_on, state_after, initial_state, GivesDecisions, window}
 use Rattle.jbig2_inverses.specs.IntegerWriter.{binary, size_decisions, integer_decisions, in_contexts, integer_entries, id_entries, IsWord, ReadsInteger, ReadsId, IntegersReadBack, SymbolIdsReadBack}
 use Rattle.jbig2_inverses.proofs.CoderStates.{reading_at, next-gives, read-gives, more-gives, contexts-append, gives-next, gives-before, gives-after, after-next, after-append, gives-amid}
 use Rattle.jbig2_inverses.proofs.IntegerRanges.{RowOf, row-of, length-binary, value-whole, value-below, prev-below}
@@ -44,7 +44,7 @@ module _ (base : ℕ) (bytes : List ℕ) where
   entries bits ds = in_contexts prev_of base bits ds
 
   -- more bits of an integer
-  more : (ds bits : List Bool) (n : ℕ) (s : State) → length ds ≡ n → Gives bytes s (entries bits ds)
+  more : (ds bits : List Bool) (n : ℕ) (s : State) → length ds ≡ n → GivesDecisions bytes s (entries bits ds)
       → read_more prev_of n bytes (at bits s) ≡ at (bits ++ ds) (state_after bytes s (asked (entries bits ds)))
   more ds bits n s size g =
       ap (λ (k : ℕ). read_more prev_of k bytes (at bits s)) (sym size)
@@ -52,7 +52,7 @@ module _ (base : ℕ) (bytes : List ℕ) where
 
   -- the sign, the prefix of a row and its value
   of_row : (symbol : Bool) (row : Range) (size : ℕ) (s : State) → RowOf base bytes size row → size < 2 ^ 32
-      → Gives bytes s (entries [] (symbol ∷ (row.prefix ++ binary row.bits (size - row.offset))))
+      → GivesDecisions bytes s (entries [] (symbol ∷ (row.prefix ++ binary row.bits (size - row.offset))))
       → integer bytes s.registers (window base 512 s.contexts)
       ≡ record { value = value_of symbol size; reading = at (symbol ∷ (row.prefix ++ binary row.bits (size - row.offset))) (state_after bytes s (asked (entries [] (symbol ∷ (row.prefix ++ binary row.bits (size - row.offset)))))) }
   of_row symbol row size s of fits g =
@@ -61,10 +61,10 @@ module _ (base : ℕ) (bytes : List ℕ) where
       let sign_bits = symbol ∷ [] in
       let es = entries sign_bits (row.prefix ++ above) in
       let split : es ≡ entries sign_bits row.prefix ++ entries (symbol ∷ row.prefix) above = contexts-append prev_of base 512 0 row.prefix above sign_bits in
-      let g1 : Gives bytes s (first ∷ es) = subst (λ (xs : List Entry). Gives bytes s xs) (in_contexts-first prev_of base [] symbol (row.prefix ++ above)) g in
+      let g1 : GivesDecisions bytes s (first ∷ es) = subst (λ (xs : List Entry). GivesDecisions bytes s xs) (in_contexts-first prev_of base [] symbol (row.prefix ++ above)) g in
       let s1 = state_on bytes s (base + prev_of []) in
-      let g2 : Gives bytes s1 es = gives-next bytes s first es g1 in
-      let g3 : Gives bytes s1 (entries sign_bits row.prefix ++ entries (symbol ∷ row.prefix) above) = subst (λ (xs : List Entry). Gives bytes s1 xs) split g2 in
+      let g2 : GivesDecisions bytes s1 es = gives-next bytes s first es g1 in
+      let g3 : GivesDecisions bytes s1 (entries sign_bits row.prefix ++ entries (symbol ∷ row.prefix) above) = subst (λ (xs : List Entry). GivesDecisions bytes s1 xs) split g2 in
       let s2 = state_after bytes s1 (asked (entries sign_bits row.prefix)) in
       let s3 = state_after bytes s2 (asked (entries (symbol ∷ row.prefix) above)) in
       let symbol_is = next-gives prev_of base 512 0 bytes [] s symbol es (prev-below []) g1 in
@@ -94,12 +94,12 @@ module _ (base : ℕ) (bytes : List ℕ) where
       ∙ ap (λ (n : ℕ). record { value = value_of symbol n; reading = at (symbol ∷ (row.prefix ++ above)) s3 }) sum_is
       ∙ ap (λ (z : State). record { value = value_of symbol size; reading = at (symbol ∷ (row.prefix ++ above)) z }) end_is
 
-  sized : (symbol : Bool) (size : ℕ) (s : State) → size < 2 ^ 32 → Gives bytes s (entries [] (symbol ∷ size_decisions size))
+  sized : (symbol : Bool) (size : ℕ) (s : State) → size < 2 ^ 32 → GivesDecisions bytes s (entries [] (symbol ∷ size_decisions size))
       → integer bytes s.registers (window base 512 s.contexts)
       ≡ record { value = value_of symbol size; reading = at (symbol ∷ size_decisions size) (state_after bytes s (asked (entries [] (symbol ∷ size_decisions size)))) }
   sized symbol size s fits g =
       let of = row-of base bytes size fits in
-      let P : Range → Type 0 = λ row. Gives bytes s (entries [] (symbol ∷ (row.prefix ++ binary row.bits (size - row.offset))))
+      let P : Range → Type 0 = λ row. GivesDecisions bytes s (entries [] (symbol ∷ (row.prefix ++ binary row.bits (size - row.offset))))
       → integer bytes s.registers (window base 512 s.contexts)
       ≡ record { value = value_of symbol size; reading = at (symbol ∷ (row.prefix ++ binary row.bits (size - row.offset))) (state_after bytes s (asked (entries [] (symbol ∷ (row.prefix ++ binary row.bits (size - row.offset)))))) } in
       subst P (sym of.1.chosen) (of_row symbol of.0 size s of.1 fits) g
@@ -123,7 +123,7 @@ zero-minus : value_of true 0 ≡ None
 unfolding value_of
 zero-minus = refl
 
-reads-integer : (bytes : List ℕ) (s : State) (base : ℕ) (value : Option ℤ) → IsWord value → Gives bytes s (integer_entries base value) → ReadsInteger bytes s base value
+reads-integer : (bytes : List ℕ) (s : State) (base : ℕ) (value : Option ℤ) → IsWord value → GivesDecisions bytes s (integer_entries base value) → ReadsInteger bytes s base value
 unfolding integer_decisions
 reads-integer bytes s base (Some (pos n)) word g =
     sized base bytes false n s (omega (arith, word)) g
@@ -159,7 +159,7 @@ id-is : (bytes : List ℕ) (registers : Registers) (ids : Ids) → id bytes regi
 unfolding id
 id-is bytes registers ids = refl
 
-reads-id : (bytes : List ℕ) (s : State) (base code_length number : ℕ) → number < 2 ^ code_length → Gives bytes s (id_entries base code_length number) → ReadsId bytes s base code_length number
+reads-id : (bytes : List ℕ) (s : State) (base code_length number : ℕ) → number < 2 ^ code_length → GivesDecisions bytes s (id_entries base code_length number) → ReadsId bytes s base code_length number
 reads-id bytes s base code_length number fits g =
     let ds = binary code_length number in
     let count = 2 ^ code_length in

@@ -4,7 +4,7 @@ use Rattle.std.proofs.lemmas.Bool.{cond-true, cond-false, cases_lt, and_left}
 use Rattle.jbig2_base.specs.Grid.{bit_number}
 use Rattle.jbig2_coder.specs.Integers.{Reading, Range, range, ranges, next, read, are_next, next_range, prev_of, value_of_bits}
 use Rattle.jbig2_inverses.specs.Digits.{digits}
-use Rattle.jbig2_inverses.specs.CoderStates.{State, state_on, Gives}
+use Rattle.jbig2_inverses.specs.CoderStates.{State, state_on, GivesDecisions}
 use Rattle.jbig2_inverses.specs.IntegerWriter.{binary, range_of, in_contexts}
 use Rattle.jbig2_inverses.proofs.Digits.{top-digit}
 use Rattle.jbig2_inverses.proofs.CoderStates.{reading_at, next-gives, read-gives, gives-next}
@@ -97,7 +97,7 @@ module _ (base : ℕ) (bytes : List ℕ) where
   abbrev at : List Bool → State → Reading
   at bits s = reading_at prev_of base 512 0 bits s
 
-  are_next-is : (wanted ds bits : List Bool) (s : State) → Gives bytes s (in_contexts prev_of base bits ds) → IsAnswer (begin_with wanted ds) (are_next wanted bytes (at bits s))
+  are_next-is : (wanted ds bits : List Bool) (s : State) → GivesDecisions bytes s (in_contexts prev_of base bits ds) → IsAnswer (begin_with wanted ds) (are_next wanted bytes (at bits s))
   unfolding are_next in_contexts
   are_next-is [] ds bits s g = refl
   are_next-is (b ∷ wanted) [] bits s g = tt
@@ -124,15 +124,15 @@ module _ (base : ℕ) (bytes : List ℕ) where
       let turned = subst (λ (r : Reading). IsAnswer (begin_with wanted ds) (are_next wanted bytes r)) (sym reading) more in
       subst (λ (x : Bool). IsAnswer (begin_with wanted ds) (not x && are_next wanted bytes (read prev_of bytes (at bits s)))) (sym symbol) turned
 
-  answer : (wanted ds bits : List Bool) (s : State) (t : Bool) → Gives bytes s (in_contexts prev_of base bits ds) → begin_with wanted ds ≡ Some t → are_next wanted bytes (at bits s) ≡ t
+  answer : (wanted ds bits : List Bool) (s : State) (t : Bool) → GivesDecisions bytes s (in_contexts prev_of base bits ds) → begin_with wanted ds ≡ Some t → are_next wanted bytes (at bits s) ≡ t
   answer wanted ds bits s t g e = subst (λ (o : Option Bool). IsAnswer o (are_next wanted bytes (at bits s))) e (are_next-is wanted ds bits s g)
 
-  passed : (row : Range) (rows : List Range) (ds bits : List Bool) (s : State) → Gives bytes s (in_contexts prev_of base bits ds) → begin_with row.prefix ds ≡ Some false
+  passed : (row : Range) (rows : List Range) (ds bits : List Bool) (s : State) → GivesDecisions bytes s (in_contexts prev_of base bits ds) → begin_with row.prefix ds ≡ Some false
       → next_range (row ∷ rows) bytes (at bits s) ≡ next_range rows bytes (at bits s)
   unfolding next_range
   passed row rows ds bits s g e = cond-false (are_next row.prefix bytes (at bits s)) row (next_range rows bytes (at bits s)) (answer row.prefix ds bits s false g e)
 
-  taken : (row : Range) (rows : List Range) (ds bits : List Bool) (s : State) → Gives bytes s (in_contexts prev_of base bits ds) → begin_with row.prefix ds ≡ Some true
+  taken : (row : Range) (rows : List Range) (ds bits : List Bool) (s : State) → GivesDecisions bytes s (in_contexts prev_of base bits ds) → begin_with row.prefix ds ≡ Some true
       → next_range (row ∷ rows) bytes (at bits s) ≡ row
   unfolding next_range
   taken row rows ds bits s g e = cond-true (are_next row.prefix bytes (at bits s)) row (next_range rows bytes (at bits s)) (answer row.prefix ds bits s true g e)
@@ -141,7 +141,7 @@ module _ (base : ℕ) (bytes : List ℕ) where
     pub chosen : range_of ranges size ≡ row
     pub low : row.offset ≤ size
     pub high : size - row.offset < 2 ^ row.bits
-    pub next : (tail bits : List Bool) (s : State) → Gives bytes s (in_contexts prev_of base bits (row.prefix ++ tail)) → next_range ranges bytes (at bits s) ≡ row
+    pub next : (tail bits : List Bool) (s : State) → GivesDecisions bytes s (in_contexts prev_of base bits (row.prefix ++ tail)) → next_range ranges bytes (at bits s) ≡ row
 
   row-1 : (size : ℕ) → 0 ≤ size → size < 4 → RowOf size r1
   unfolding ranges

@@ -8,7 +8,7 @@ use Rattle.jbig2_base.specs.Grid.{grid_of, differ}
 use Rattle.jbig2_base.proofs.GridLemmas.{grid_of-ext}
 use Rattle.jbig2_coder.specs.Coder.{Context, Decision, fresh, decision}
 use Rattle.jbig2_region.specs.Raster.{Coding, Region, so_far, with_next, after_ltp, at_next, after_pixel, first_pixels, decoded_region, no_pixels}
-use Rattle.jbig2_inverses.specs.CoderStates.{Entry, asked, State, state_on, state_after, Gives, window}
+use Rattle.jbig2_inverses.specs.CoderStates.{Entry, asked, State, state_on, state_after, GivesDecisions, window}
 use Rattle.jbig2_inverses.specs.RegionWriter.{known_or, pixels_before, ltp_before, ltp_entries, row_entries, pixel_entries, entries_before, IsCodable, RegionsReadBack}
 use Rattle.jbig2_inverses.proofs.CoderStates.{window-get, window-set, gives-first, gives-before, gives-after, after-none, after-append}
 
@@ -114,7 +114,7 @@ module _ (base count : ℕ) (bytes : List ℕ) where
   decision-is : (z : State) (k : ℕ) → k < count → decision bytes z.registers (get_or (window base count z.contexts) k fresh) ≡ decided z k
   decision-is z k low = ap (λ (x : Context). decision bytes z.registers x) (window-get base count k z.contexts fresh low)
 
-  pixel-decided : (px : List Bool) (ltp : Bool) (z : State) (k : ℕ) (d : Bool) (es : List Entry) → k < count → Gives bytes z ((base + k, d) ∷ es)
+  pixel-decided : (px : List Bool) (ltp : Bool) (z : State) (k : ℕ) (d : Bool) (es : List Entry) → k < count → GivesDecisions bytes z ((base + k, d) ∷ es)
       → with_next bytes (region_at px ltp z) k None ≡ region_at (px ++ d ∷ []) ltp (state_on bytes z (base + k))
   unfolding with_next state_on
   pixel-decided px ltp z k d es low g =
@@ -123,7 +123,7 @@ module _ (base count : ℕ) (bytes : List ℕ) where
       ∙ ap (λ (cs : List Context). record { pixels = px ++ (decided z k).symbol ∷ []; predicted = ltp; registers = (decided z k).registers; contexts = cs }) (window-set base count k z.contexts (decided z k).context low)
       ∙ ap (λ (b : Bool). region_at (px ++ b ∷ []) ltp (state_on bytes z (base + k))) (gives-first bytes z (base + k, d) es g)
 
-  ltp-decided : (px : List Bool) (c q : Bool) (z : State) (k : ℕ) (es : List Entry) → k < count → Gives bytes z ((base + k, differ c q) ∷ es)
+  ltp-decided : (px : List Bool) (c q : Bool) (z : State) (k : ℕ) (es : List Entry) → k < count → GivesDecisions bytes z ((base + k, differ c q) ∷ es)
       → after_ltp (Some k) bytes (region_at px q z) ≡ region_at px c (state_on bytes z (base + k))
   unfolding after_ltp state_on
   ltp-decided px c q z k es low g =
@@ -135,7 +135,7 @@ module _ (base count : ℕ) (bytes : List ℕ) where
 
   -- a pixel, whether its colour is known or not
   one-pixel : (o : Option Bool) (px : List Bool) (ltp : Bool) (z : State) (k : ℕ) (d : Bool) → k < count → ((c : Bool) → o ≡ Some c → c ≡ d)
-      → Gives bytes z (known_or o (base + k, d)) → with_next bytes (region_at px ltp z) k o ≡ region_at (px ++ d ∷ []) ltp (state_after bytes z (asked (known_or o (base + k, d))))
+      → GivesDecisions bytes z (known_or o (base + k, d)) → with_next bytes (region_at px ltp z) k o ≡ region_at (px ++ d ∷ []) ltp (state_after bytes z (asked (known_or o (base + k, d))))
   unfolding with_next state_after
   one-pixel (Some c) px ltp z k d low known g = ap (λ (b : Bool). region_at (px ++ b ∷ []) ltp z) (known c refl)
   one-pixel None px ltp z k d low known g = pixel-decided px ltp z k d [] low g
@@ -175,7 +175,7 @@ module _ (coding : Coding) (w h : ℕ) (pixels : ℕ → ℕ → Bool) (typical 
   ltp-none zero e = sym (is.no_rows e (0 / w))
   ltp-none (suc n) e = is.no_rows e (n / w) ∙ sym (is.no_rows e (suc n / w))
 
-  begins-by : (o : Option ℕ) (n : ℕ) (z : State) → coding.row_context ≡ o → Gives bytes z (ltp_entries coding w h pixels typical base o n)
+  begins-by : (o : Option ℕ) (n : ℕ) (z : State) → coding.row_context ≡ o → GivesDecisions bytes z (ltp_entries coding w h pixels typical base o n)
       → after_ltp o bytes (at (seen n) (ltp n) z) ≡ at (seen n) (typical (n / w)) (state_after bytes z (asked (ltp_entries coding w h pixels typical base o n)))
   unfolding after_ltp state_after
   begins-by None n z e g = ap (λ (l : Bool). at (seen n) l z) (ltp-none n e)
@@ -185,7 +185,7 @@ module _ (coding : Coding) (w h : ℕ) (pixels : ℕ → ℕ → Bool) (typical 
   goes-on zero wide o = absurd (o (let e : 0 * w + 0 ≡ 0 = omega arith in ap (λ (m : ℕ). m % w) (sym e) ∙ mod-mul-add 0 w 0 wide))
   goes-on (suc n) wide o = ap typical (same-row n w wide o)
 
-  next-row : (n : ℕ) (z : State) → 0 < w → Gives bytes z (row_of n) → at_next coding w bytes (at (seen n) (ltp n) z) ≡ at (seen n) (typical (n / w)) (state_after bytes z (asked (row_of n)))
+  next-row : (n : ℕ) (z : State) → 0 < w → GivesDecisions bytes z (row_of n) → at_next coding w bytes (at (seen n) (ltp n) z) ≡ at (seen n) (typical (n / w)) (state_after bytes z (asked (row_of n)))
   unfolding at_next
   next-row n z wide g =
       let r = at (seen n) (ltp n) z in
@@ -197,7 +197,7 @@ module _ (coding : Coding) (w h : ℕ) (pixels : ℕ → ℕ → Bool) (typical 
       let t = eq-eqb (n % w) 0 e in
       let es : row_of n ≡ ltp_es = cond-true (eqb (n % w) 0) ltp_es [] t in
       cond-true (eqb (n % w) 0) (after_ltp coding.row_context bytes r) r t
-      ∙ begins-by coding.row_context n z refl (subst (λ (xs : List Entry). Gives bytes z xs) es g)
+      ∙ begins-by coding.row_context n z refl (subst (λ (xs : List Entry). GivesDecisions bytes z xs) es g)
       ∙ ap (λ (xs : List Entry). at (seen n) (typical (n / w)) (state_after bytes z (asked xs))) (sym es))
       (λ (o : n % w ≡ 0 → ⊥).
       let f = ne_eqb (n % w) 0 o in
@@ -208,7 +208,7 @@ module _ (coding : Coding) (w h : ℕ) (pixels : ℕ → ℕ → Bool) (typical 
       ∙ ap (λ (xs : List Entry). at (seen n) (typical (n / w)) (state_after bytes z (asked xs))) (sym es))
       (cases_eq (n % w) 0)
 
-  next-pixel : (n : ℕ) (z : State) → n < w * h → Gives bytes z (pixel_of n) → after_pixel coding w h bytes (at (seen n) (typical (n / w)) z) ≡ at (seen (suc n)) (typical (n / w)) (state_after bytes z (asked (pixel_of n)))
+  next-pixel : (n : ℕ) (z : State) → n < w * h → GivesDecisions bytes z (pixel_of n) → after_pixel coding w h bytes (at (seen n) (typical (n / w)) z) ≡ at (seen (suc n)) (typical (n / w)) (state_after bytes z (asked (pixel_of n)))
   unfolding after_pixel
   next-pixel n z inside g =
       let x = n % w in
@@ -226,7 +226,7 @@ module _ (coding : Coding) (w h : ℕ) (pixels : ℕ → ℕ → Bool) (typical 
       none : w ≡ 0 → ⊥
       none z = let e : w * h ≡ 0 = ap (λ (v : ℕ). v * h) z ∙ (let f : 0 * h ≡ 0 = omega arith in f) in omega (arith, e, inside)
 
-  reads : (n : ℕ) → n ≤ w * h → Gives bytes s (entries n) → first_pixels coding w h bytes (no_pixels s.registers (window base count s.contexts)) n ≡ at (seen n) (ltp n) (reached n)
+  reads : (n : ℕ) → n ≤ w * h → GivesDecisions bytes s (entries n) → first_pixels coding w h bytes (no_pixels s.registers (window base count s.contexts)) n ≡ at (seen n) (ltp n) (reached n)
   unfolding first_pixels entries_before state_after pixels_before
   reads zero few g = refl
   reads (suc n) few g =
@@ -234,7 +234,7 @@ module _ (coding : Coding) (w h : ℕ) (pixels : ℕ → ℕ → Bool) (typical 
       let wide = wide-of n inside in
       let both = row_of n ++ pixel_of n in
       let g0 = gives-before bytes s (entries n) both g in
-      let g1 : Gives bytes (reached n) both = gives-after bytes s (entries n) both g in
+      let g1 : GivesDecisions bytes (reached n) both = gives-after bytes s (entries n) both g in
       let mid = state_after bytes (reached n) (asked (row_of n)) in
       let end : state_after bytes mid (asked (pixel_of n)) ≡ state_after bytes s (asked (entries n ++ both)) =
       sym (after-append bytes s (entries n) both ∙ after-append bytes (reached n) (row_of n) (pixel_of n)) in
@@ -243,7 +243,7 @@ module _ (coding : Coding) (w h : ℕ) (pixels : ℕ → ℕ → Bool) (typical 
       ∙ next-pixel n mid inside (gives-after bytes (reached n) (row_of n) (pixel_of n) g1)
       ∙ ap (λ (z : State). at (seen (suc n)) (typical (n / w)) z) end
 
-  reads-region : Gives bytes s (entries (w * h))
+  reads-region : GivesDecisions bytes s (entries (w * h))
       → (decoded_region coding w h bytes (no_pixels s.registers (window base count s.contexts)) ≡ at (seen (w * h)) (ltp (w * h)) (reached (w * h))) × (so_far w h (seen (w * h)) ≡ grid_of w h pixels)
   unfolding decoded_region
   reads-region g = (reads (w * h) (omega arith) g, grid-is coding w h pixels typical base)

@@ -3,7 +3,7 @@
 use Rattle.std.proofs.Common.{◌≡◌, ℕ, ◌+◌, ◌-◌, ◌*◌, ◌^◌, ◌<◌, ◌≤◌, Bool, true, ◌&&◌, leb, List, [], ◌∷◌, get_or, refl, ap, ◌∙◌, ⊎_elim}
 use Rattle.std.proofs.lemmas.Bool.{agree_below_at, and_parts, leb-true, cases_lt}
 use Rattle.std.proofs.lemmas.List.{get_or_past}
-use Rattle.jbig2_coder.specs.Table.{QeData, rows, row_of}
+use Rattle.jbig2_coder.specs.Table.{QeData, rows, qe_row}
 
 credits : List ℕ
 credits =
@@ -29,30 +29,30 @@ shifts_of k = get_or all_shifts k 2
 pub record Costs (k : ℕ) : Type 0 where
   pub shifts : ℕ
   pub few : shifts ≤ 15
-  pub lower : 0x8000 ≤ (row_of k).qe * 2 ^ shifts
-  pub upper : 0x8000 ≤ (0x8000 - (row_of k).qe) * 2 ^ shifts
-  pub unlikely : shifts + credit (row_of k).nlps ≤ 6 + credit k
-  pub likely : credit (row_of k).nmps ≤ 5 + credit k
+  pub lower : 0x8000 ≤ (qe_row k).qe * 2 ^ shifts
+  pub upper : 0x8000 ≤ (0x8000 - (qe_row k).qe) * 2 ^ shifts
+  pub unlikely : shifts + credit (qe_row k).nlps ≤ 6 + credit k
+  pub likely : credit (qe_row k).nmps ≤ 5 + credit k
 
 holds : QeData → ℕ → ℕ → Bool
 holds row n worth =
     leb n 15 && (leb 0x8000 (row.qe * 2 ^ n) && (leb 0x8000 ((0x8000 - row.qe) * 2 ^ n) && (leb (n + credit row.nlps) (6 + worth) && leb (credit row.nmps) (5 + worth))))
 
-test_at : (k : ℕ) → k < 47 → holds (row_of k) (shifts_of k) (credit k) ≡ true
-unfolding holds credit credits shifts_of all_shifts rows row_of
-test_at k h = agree_below_at (λ i. holds (row_of i) (shifts_of i) (credit i)) (λ _. true) 47 k refl h
+test_at : (k : ℕ) → k < 47 → holds (qe_row k) (shifts_of k) (credit k) ≡ true
+unfolding holds credit credits shifts_of all_shifts rows qe_row
+test_at k h = agree_below_at (λ i. holds (qe_row i) (shifts_of i) (credit i)) (λ _. true) 47 k refl h
 
-test_past : (k : ℕ) → 47 ≤ k → holds (row_of k) (shifts_of k) (credit k) ≡ true
-unfolding holds credit credits shifts_of all_shifts rows row_of
+test_past : (k : ℕ) → 47 ≤ k → holds (qe_row k) (shifts_of k) (credit k) ≡ true
+unfolding holds credit credits shifts_of all_shifts rows qe_row
 test_past k h =
     ap (λ (row : QeData). holds row (shifts_of k) (credit k)) (get_or_past rows k _ h)
-    ∙ ap (λ (n : ℕ). holds (row_of 47) n (credit k)) (get_or_past all_shifts k 2 h)
-    ∙ ap (λ (n : ℕ). holds (row_of 47) 2 n) (get_or_past credits k 0 h)
+    ∙ ap (λ (n : ℕ). holds (qe_row 47) n (credit k)) (get_or_past all_shifts k 2 h)
+    ∙ ap (λ (n : ℕ). holds (qe_row 47) 2 n) (get_or_past credits k 0 h)
 
-costs-test : (k : ℕ) → holds (row_of k) (shifts_of k) (credit k) ≡ true → Costs k
+costs-test : (k : ℕ) → holds (qe_row k) (shifts_of k) (credit k) ≡ true → Costs k
 unfolding holds
 costs-test k h =
-    let row = row_of k in
+    let row = qe_row k in
     let n = shifts_of k in
     let low : Bool = leb 0x8000 (row.qe * 2 ^ n) in
     let high : Bool = leb 0x8000 ((0x8000 - row.qe) * 2 ^ n) in

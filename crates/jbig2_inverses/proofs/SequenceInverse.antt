@@ -9,7 +9,7 @@ use Rattle.jbig2_coder.specs.declared.integer_procedures.IntegerProcedure.TheVar
 use Rattle.jbig2_coder.specs.Coder.{Context, Coder, fresh, decision}
 use Rattle.jbig2_coder.specs.Encoder.{encoded_bytes, with_context}
 use Rattle.jbig2_coder.specs.Integers.{Reading, Procedures, index_of, integer, integer_by, prev_of, value_of_bits}
-use Rattle.jbig2_inverses.specs.CoderStates.{asked, State, state_on, state_after, initial_state, Gives, window}
+use Rattle.jbig2_inverses.specs.CoderStates.{asked, State, state_on, state_after, initial_state, GivesDecisions, window}
 use Rattle.jbig2_inverses.specs.IntegerWriter.{in_contexts, integer_decisions, integer_entries, id_entries, binary, IsWord}
 use Rattle.jbig2_inverses.specs.SequenceWriter.{Integer, Id, Item, IntegerOf, IdOf, asked_of, Readers, entries_of, IsWritable, read_item, read_items, SequencesReadBack}
 use Rattle.jbig2_inverses.proofs.CoderStates.{window-apart, window-fresh, gives-after, gives-before, gives-encoded}
@@ -112,7 +112,7 @@ module _ (code_length : ℕ) (bytes : List ℕ) where
   integer_by-is p s value reading e =
       ap (λ (i : record { value : Option ℤ; reading : Reading }). record { value = i.value; coder = record { bytes = bytes; registers = i.reading.registers }; procedures = set (windows 13 0 s.contexts) (index_of p) i.reading.contexts }) e
 
-  reads-integer : (p : IntegerProcedure) (value : Option ℤ) (s : State) → IsWord value → Gives bytes s (integer_entries (512 * index_of p) value)
+  reads-integer : (p : IntegerProcedure) (value : Option ℤ) (s : State) → IsWord value → GivesDecisions bytes s (integer_entries (512 * index_of p) value)
       → read_item code_length (readers_at s) (Integer p) ≡ (IntegerOf p value, readers_at (state_after bytes s (asked (integer_entries (512 * index_of p) value))))
   reads-integer p value s word g =
       let i = index_of p in
@@ -140,7 +140,7 @@ module _ (code_length : ℕ) (bytes : List ℕ) where
       sides : (i j : ℕ) → (j ≡ i → ⊥) → (512 * i + 512 ≤ 512 * j) ⊎ (512 * j + 512 ≤ 512 * i)
       sides i j o = ⊎_elim (λ (a : i < j). inl (omega (arith, a))) (λ (a : j ≤ i). inr (omega (arith, a, o))) (cases_lt i j)
 
-  reads-id : (number : ℕ) (s : State) → number < 2 ^ code_length → Gives bytes s (id_entries 6656 code_length number)
+  reads-id : (number : ℕ) (s : State) → number < 2 ^ code_length → GivesDecisions bytes s (id_entries 6656 code_length number)
       → read_item code_length (readers_at s) Id ≡ (IdOf number, readers_at (state_after bytes s (asked (id_entries 6656 code_length number))))
   reads-id number s fits g =
       let end = state_after bytes s (asked (id_entries 6656 code_length number)) in
@@ -155,12 +155,12 @@ module _ (code_length : ℕ) (bytes : List ℕ) where
       ∙ ap (λ (ps : Procedures). made reading ps) (sym (windows-far 13 0 s.contexts end.contexts far (omega arith)))
       ∙ ap (λ (n : ℕ). (IdOf n, readers_at end)) read.1
 
-  reads-item : (item : Item) (s : State) → IsWritable code_length item → Gives bytes s (entries_of code_length item)
+  reads-item : (item : Item) (s : State) → IsWritable code_length item → GivesDecisions bytes s (entries_of code_length item)
       → read_item code_length (readers_at s) (asked_of item) ≡ (item, readers_at (state_after bytes s (asked (entries_of code_length item))))
   reads-item (IntegerOf p value) s word g = reads-integer p value s word g
   reads-item (IdOf number) s fits g = reads-id number s fits g
 
-  reads-items : (items : List Item) (s : State) → All (IsWritable code_length) items → Gives bytes s (flat_map (entries_of code_length) items)
+  reads-items : (items : List Item) (s : State) → All (IsWritable code_length) items → GivesDecisions bytes s (flat_map (entries_of code_length) items)
       → read_items code_length (readers_at s) (map asked_of items) ≡ items
   unfolding read_items
   reads-items [] s writable g = refl

@@ -29,8 +29,8 @@ abbrev pub initial_state : List ℕ → State
 initial_state bytes = record { registers = initial_registers bytes; contexts = λ _. fresh }
 
 -- the next decisions are these, if they are asked in their contexts
-abbrev pub Gives : List ℕ → State → List Entry → Type 0
-Gives bytes s entries = decoded_from bytes s.registers s.contexts (asked entries) ≡ decisions entries
+abbrev pub GivesDecisions : List ℕ → State → List Entry → Type 0
+GivesDecisions bytes s entries = decoded_from bytes s.registers s.contexts (asked entries) ≡ decisions entries
 
 unfoldable pub window : ℕ → ℕ → (ℕ → Context) → List Context  -- the count contexts from number base on
 window base zero contexts = []

@@ -5,7 +5,7 @@ use Rattle.std.specs.Prelude.{List, [], ◌∷◌, ◌++◌, map, Option, Some, 
 use Rattle.jbig2_coder.specs.Integers.{Range, range, ranges, prev_of, value_of_bits, integer, id}
 use Rattle.jbig2_coder.specs.Encoder.{encoded_bytes}
 use Rattle.jbig2_inverses.specs.Digits.{digits}
-use Rattle.jbig2_inverses.specs.CoderStates.{Entry, State, Gives, asked, initial_state, state_after, window}
+use Rattle.jbig2_inverses.specs.CoderStates.{Entry, State, GivesDecisions, asked, initial_state, state_after, window}
 
 abbrev pub binary : ℕ → ℕ → List Bool  -- the lowest k bits of a number as decisions, high bit first
 binary k n = map (λ digit. digit == 1) (digits k n)
@@ -72,7 +72,7 @@ ReadsId bytes s base code_length number =
 -- whatever decisions are before and after it, in whatever contexts: so any sequence of numbers is read.
 pub record IntegersReadBack : Type 0 where
   pub decisions : (bytes : List ℕ) (s : State) (base : ℕ) (value : Option ℤ) → IsWord value
-      → Gives bytes s (integer_entries base value) → ReadsInteger bytes s base value
+      → GivesDecisions bytes s (integer_entries base value) → ReadsInteger bytes s base value
   pub bytes : (before after : List Entry) (base : ℕ) (value : Option ℤ) → IsWord value
       → let bytes = encoded_bytes (before ++ integer_entries base value ++ after) in
       ReadsInteger bytes (state_after bytes (initial_state bytes) (asked before)) base value
@@ -80,7 +80,7 @@ pub record IntegersReadBack : Type 0 where
 -- The same for symbol ids of each code length.
 pub record SymbolIdsReadBack : Type 0 where
   pub decisions : (bytes : List ℕ) (s : State) (base code_length number : ℕ) → number < 2 ^ code_length
-      → Gives bytes s (id_entries base code_length number) → ReadsId bytes s base code_length number
+      → GivesDecisions bytes s (id_entries base code_length number) → ReadsId bytes s base code_length number
   pub bytes : (before after : List Entry) (base code_length number : ℕ) → number < 2 ^ code_length
       → let bytes = encoded_bytes (before ++ id_entries base code_length number ++ after) in
       ReadsId bytes (state_after bytes (initial_state bytes) (asked before)) base code_length number

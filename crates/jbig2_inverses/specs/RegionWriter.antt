@@ -8,7 +8,7 @@ use Rattle.jbig2_region.specs.GenericHeader.{GenericHeader}
 use Rattle.jbig2_region.specs.Raster.{Coding, so_far, no_pixels, decoded_region}
 use Rattle.jbig2_region.specs.Templates.{FitsTemplate}
 use Rattle.jbig2_region.specs.Generic.{generic_coding, generic_result}
-use Rattle.jbig2_inverses.specs.CoderStates.{Entry, State, asked, Gives, state_after, window}
+use Rattle.jbig2_inverses.specs.CoderStates.{Entry, State, asked, GivesDecisions, state_after, window}
 use Rattle.jbig2_inverses.specs.BitmapWriter.{mmr_bytes}
 
 abbrev pub known_or : Option Bool → Entry → List Entry  -- no decision for a pixel whose colour is known
@@ -58,7 +58,7 @@ module _ (coding : Coding) (w h : ℕ) (pixels : ℕ → ℕ → Bool) (typical 
 abbrev pub RegionsReadBack : Type 0
 RegionsReadBack = (coding : Coding) (w h : ℕ) (pixels : ℕ → ℕ → Bool) (typical : ℕ → Bool) (base count : ℕ)
     → IsCodable coding w h pixels typical base count
-    → (bytes : List ℕ) (s : State) → Gives bytes s (entries_before coding w h pixels typical base (w * h))
+    → (bytes : List ℕ) (s : State) → GivesDecisions bytes s (entries_before coding w h pixels typical base (w * h))
     → let end = state_after bytes s (asked (entries_before coding w h pixels typical base (w * h))) in
     let seen = pixels_before coding w h pixels typical base (w * h) in
     (decoded_region coding w h bytes (no_pixels s.registers (window base count s.contexts))

@@ -6,7 +6,7 @@ use Rattle.std.proofs.lemmas.Bool.{and_cases, and_parts, cond_both, eqb-false, f
 use Rattle.jbig2_base.specs.declared.error.DecodeError.{DecodeError}
 use Rattle.jbig2_base.specs.declared.error.DecodeError.TheVariants.{Region}
 use Rattle.jbig2_base.specs.declared.error.RegionError.TheVariants.{InvalidMmrData}
-use Rattle.jbig2_mmr.specs.Causes.{BeginNone, BreaksMmr, BreaksMode, BreaksRow, BreaksRows, BreaksRun, BreaksRuns}
+use Rattle.jbig2_mmr.specs.Causes.{BeginNone, BreaksMmr, BreaksMode, BreaksRow, BreaksMmrRows, BreaksRun, BreaksRuns}
 use Rattle.jbig2_mmr.specs.T6.{DecodedRows, Head, Rows, Step, after_mode, after_pass, after_runs, after_vertical, b1_of, begins, bits_of, ends_block, grid_of_rows, mmr_rows, next_step, pixel_of, place_in, read_code, row, row_from, row_start, rows_from, rows_of, run, run_from, runs_of, ◌>>=◌}
 use Rattle.jbig2_mmr.proofs.T6Decoding.{or_fault}
 use Rattle.jbig2_mmr.specs.T6Codes.{black_runs, longer_runs, modes, white_runs}
@@ -192,29 +192,29 @@ row-fault (suc most) w above h changes bits =
     by-step None none later is = inl (mode-fault w above h bits none)
     by-step (Some s) some later is = inr (s, some, later s is)
 
-rows-fault : (n w : ℕ) (above : List ℕ) (done : List (List ℕ)) (bits : List ℕ) → (rows_from n w above done bits).whole ≡ false → BreaksRows n w above bits
+rows-fault : (n w : ℕ) (above : List ℕ) (done : List (List ℕ)) (bits : List ℕ) → (rows_from n w above done bits).whole ≡ false → BreaksMmrRows n w above bits
 unfolding rows_from
 rows-fault zero w above done bits = λ is. absurd (false≢true (sym is))
 rows-fault (suc n) w above done bits =
-    let Q : Rows → Type 0 = λ r. r.whole ≡ false → BreaksRows (suc n) w above bits in
+    let Q : Rows → Type 0 = λ r. r.whole ≡ false → BreaksMmrRows (suc n) w above bits in
     let o = row w (pixel_of w above) bits in
     cond_both (ends_block bits) (record { rows = done; whole = false; left = drop 24 bits }) (or_fault done o (λ r. rows_from n w r.0 (done ++ r.0 ∷ []) r.1)) Q
     (λ ends is. inl ends)
     (λ goes is. inr (by-row o refl (λ r is. rows-fault n w r.0 (done ++ r.0 ∷ []) r.1 is) is))
   where
-    by-row : (o : Option (List ℕ × List ℕ)) → row w (pixel_of w above) bits ≡ o → ((r : List ℕ × List ℕ) → (rows_from n w r.0 (done ++ r.0 ∷ []) r.1).whole ≡ false → BreaksRows n w r.0 r.1) → (or_fault done o (λ r. rows_from n w r.0 (done ++ r.0 ∷ []) r.1)).whole ≡ false → BreaksRow (length bits) w (pixel_of w above) row_start bits ⊎ ((changes : List ℕ) × (left : List ℕ) × (row w (pixel_of w above) bits ≡ Some (changes, left)) × BreaksRows n w changes left)
+    by-row : (o : Option (List ℕ × List ℕ)) → row w (pixel_of w above) bits ≡ o → ((r : List ℕ × List ℕ) → (rows_from n w r.0 (done ++ r.0 ∷ []) r.1).whole ≡ false → BreaksMmrRows n w r.0 r.1) → (or_fault done o (λ r. rows_from n w r.0 (done ++ r.0 ∷ []) r.1)).whole ≡ false → BreaksRow (length bits) w (pixel_of w above) row_start bits ⊎ ((changes : List ℕ) × (left : List ℕ) × (row w (pixel_of w above) bits ≡ Some (changes, left)) × BreaksMmrRows n w changes left)
     by-row None none later is = inl (row-fault (length bits) w (pixel_of w above) row_start [] bits none)
     by-row (Some r) some later is = inr (r.0, r.1, some, later r is)
 
-pub all-fault : (w h : ℕ) (bytes : List ℕ) → (rows_of w h bytes).whole ≡ false → (0 < w) × BreaksRows h w [] (bits_of bytes)
+pub all-fault : (w h : ℕ) (bytes : List ℕ) → (rows_of w h bytes).whole ≡ false → (0 < w) × BreaksMmrRows h w [] (bits_of bytes)
 unfolding rows_of
 all-fault w h bytes =
-    let Q : Rows → Type 0 = λ r. r.whole ≡ false → (0 < w) × BreaksRows h w [] (bits_of bytes) in
+    let Q : Rows → Type 0 = λ r. r.whole ≡ false → (0 < w) × BreaksMmrRows h w [] (bits_of bytes) in
     cond_both (eqb w 0 || eqb h 0) (record { rows = []; whole = true; left = bits_of bytes }) (rows_from h w [] [] (bits_of bytes)) Q
     (λ none is. absurd (false≢true (sym is)))
     (λ some is. (omega (arith, eqb-false w 0 (or_parts (eqb w 0) (eqb h 0) some).0), rows-fault h w [] [] (bits_of bytes) is))
 
-pub cause-mmr : (P : DecodeError → Type 0) (strict : Bool) (w h : ℕ) (bytes : List ℕ) → ((strict ≡ true) × (0 < w) × BreaksRows h w [] (bits_of bytes) → P (Region InvalidMmrData)) → IfErr (mmr_rows strict w h bytes) P
+pub cause-mmr : (P : DecodeError → Type 0) (strict : Bool) (w h : ℕ) (bytes : List ℕ) → ((strict ≡ true) × (0 < w) × BreaksMmrRows h w [] (bits_of bytes) → P (Region InvalidMmrData)) → IfErr (mmr_rows strict w h bytes) P
 unfolding mmr_rows
 cause-mmr P strict w h bytes why =
     let r = rows_of w h bytes in

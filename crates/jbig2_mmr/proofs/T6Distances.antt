@@ -2,7 +2,7 @@
 use Rattle.std.proofs.Common.{◌≡◌, ℕ, ◌+◌, ◌^◌, ◌<◌, ℤ, pos, SFits, to_z, of_z, w32, w64, rules, ◌≤◌, ap, ◌∙◌, arith}
 use Rattle.std.specs.Prelude.{◌+ℤ◌, ◌-ℤ◌, ◌≤ℤ◌}
 use Rattle.std.proofs.lemmas.Int.{ints, to_z-of_z}
-use Rattle.jbig2_mmr.specs.inner.T6Steps.{IsNear}
+use Rattle.jbig2_mmr.specs.inner.T6Steps.{IsWithinThree}
 
 -- a small difference fits its type
 pub distance-is : (kind : ℕ) (z : ℤ) → kind < 32 → z ≡ pos kind → to_z w32 (of_z w32 (to_z w32 (of_z w32 z) -ℤ pos 6)) ≡ pos kind -ℤ pos 6
@@ -23,11 +23,11 @@ pub wide-is : (n : ℕ) (z : ℤ) → n < 2 ^ 32 → z ≡ pos n → to_z w64 (o
 wide-is n z small e = ap (λ (y : ℤ). to_z w64 (of_z w64 y)) e ∙ to_z-of_z w64 (pos n) (record { sfits = omega (arith, ints) })
 
 -- a vertical mode's distance, by the number of its kind, which is 3 or more
-pub kind-near : (kind : ℕ) → 2 < kind → IsNear (pos kind -ℤ pos 6)
+pub kind-near : (kind : ℕ) → 2 < kind → IsWithinThree (pos kind -ℤ pos 6)
 kind-near kind vertical = omega (arith, ints)
 
 -- so a1 is at most three pixels left of b1
-pub near-place : (b1 a1 : ℕ) (d : ℤ) → IsNear d → pos b1 +ℤ d ≡ pos a1 → b1 ≤ a1 + 3
+pub near-place : (b1 a1 : ℕ) (d : ℤ) → IsWithinThree d → pos b1 +ℤ d ≡ pos a1 → b1 ≤ a1 + 3
 near-place b1 a1 d near e =
     let low : (pos 0 -ℤ pos 3) ≤ℤ d = near in
     omega (arith, ints, low, e)

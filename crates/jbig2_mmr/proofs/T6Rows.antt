@@ -15,7 +15,7 @@ use Rattle.jbig2_mmr.specs.declared.mmr.row.Turn.{Turn}
 use Rattle.jbig2_base.specs.Search.{place_from}
 use Rattle.{jbig2_base.specs.Grid.{differ}, jbig2_mmr.specs.T6.{left_of, is_change, Head, Step, b1_of, b2_of, run, after_pass, after_runs, after_vertical, place_in, after_mode, next_step, read_code, row_from, row_start, black_at, ◌>>=◌}}
 use Rattle.jbig2_mmr.specs.T6Codes.{modes}
-use Rattle.jbig2_mmr.specs.inner.T6Reading.{row_above, row_of, IsSpan, IsTurn, ReadRun}
+use Rattle.jbig2_mmr.specs.inner.T6Reading.{row_above, pixels_of_row, IsSpan, IsTurn, ReadRun}
 use Rattle.jbig2_mmr.specs.inner.T6Calls.{head_of, ReadStep, ReadRow}
 
 -- ---- parity of changes
@@ -294,7 +294,7 @@ row-start g y bits known white = record {
 }
 
 -- the row above stays while row y is painted
-pub above-same : (g new : Grid) (y above : ℕ) → ((x j : ℕ) → (j ≡ y → ⊥) → pixel_at new x j ≡ pixel_at g x j) → (above ≡ y → ⊥) → ((x : ℕ) → pixel_at g x above ≡ row_above g y x) → row_of new above ≡ row_above g y
+pub above-same : (g new : Grid) (y above : ℕ) → ((x j : ℕ) → (j ≡ y → ⊥) → pixel_at new x j ≡ pixel_at g x j) → (above ≡ y → ⊥) → ((x : ℕ) → pixel_at g x above ≡ row_above g y x) → pixels_of_row new above ≡ row_above g y
 above-same g new y above other apart is = let each : (x : ℕ) → pixel_at new x above ≡ row_above g y x = λ x. other x above apart ∙ is x in λ i x. each x i
 
 step-from : (most w : ℕ) (above : ℕ → Bool) (h : Head) (changes bits : List ℕ) (s : Step) → h.a0 < w → 1 ≤ most → next_step w above h bits ≡ Some s → (n : ℕ) × (suc n ≡ most) × (row_from most w above h changes bits ≡ row_from n w above s.head (changes ++ s.added) s.left)

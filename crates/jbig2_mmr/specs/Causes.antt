@@ -47,15 +47,15 @@ BreaksRow (suc most) w above h bits =
     ⊎ ((s : Step) × (next_step w above h bits ≡ Some s) × BreaksRow most w above s.head s.left))
 
 -- Of n rows the next one is missing (the end of block comes in its place) or has a fault, or a later one does.
-abbrev pub BreaksRows : ℕ → ℕ → List ℕ → List ℕ → Type 0
-BreaksRows zero w above bits = ⊥
-BreaksRows (suc n) w above bits =
+abbrev pub BreaksMmrRows : ℕ → ℕ → List ℕ → List ℕ → Type 0
+BreaksMmrRows zero w above bits = ⊥
+BreaksMmrRows (suc n) w above bits =
     (ends_block bits ≡ true)
     ⊎ (BreaksRow (length bits) w (pixel_of w above) row_start bits
     ⊎ ((changes : List ℕ) × (left : List ℕ) × (row w (pixel_of w above) bits ≡ Some (changes, left))
-    × BreaksRows n w changes left))
+    × BreaksMmrRows n w changes left))
 
 -- Only in strict mode, and only if there are columns.
 abbrev pub BreaksMmr : Bool → ℕ → ℕ → List ℕ → DecodeError → Type 0
-BreaksMmr strict w h bytes (Region InvalidMmrData) = (strict ≡ true) × (0 < w) × BreaksRows h w [] (bits_of bytes)
+BreaksMmr strict w h bytes (Region InvalidMmrData) = (strict ≡ true) × (0 < w) × BreaksMmrRows h w [] (bits_of bytes)
 BreaksMmr strict w h bytes _ = ⊥

@@ -5,7 +5,7 @@ use Rattle.jbig2_base.specs.Grid.{Grid, pixel_at}
 use Rattle.jbig2_base.specs.Table.{IsTable}
 use Rattle.jbig2_base.proofs.GridLemmas.{pixel_at-right}
 use Rattle.jbig2_mmr.specs.T6.{Head, mmr_rows, row_start}
-use Rattle.jbig2_mmr.specs.inner.T6Reading.{row_above, row_of}
+use Rattle.jbig2_mmr.specs.inner.T6Reading.{row_above, pixels_of_row}
 use Rattle.jbig2_inverses.specs.BitmapWriter.{mmr_bits, mmr_bytes, packed, rows_bits}
 use Rattle.jbig2_inverses.specs.Digits.{digits}
 use Rattle.jbig2_inverses.specs.RowWriter.{bits_from, code_of, row_bits}
@@ -74,11 +74,11 @@ module _ (g : Grid) where
       (λ (right : g.width ≤ x). pixel_at-right g x y right ∙ ap (λ (b : Bool). b && pixel_at g x y) (sym (le-ltb x g.width right)))
       (cases_lt x g.width)
 
-  pub rows-go : (y : ℕ) (all old new : List ℕ) → y < g.height → new ≡ old ++ row_bits g.width (row_above g y) (row_of g y) → old ++ rows_from y ≡ all → new ++ rows_from (y + 1) ≡ all
+  pub rows-go : (y : ℕ) (all old new : List ℕ) → y < g.height → new ≡ old ++ row_bits g.width (row_above g y) (pixels_of_row g y) → old ++ rows_from y ≡ all → new ++ rows_from (y + 1) ≡ all
   unfolding rows_bits
   rows-go y all old new inside bits before =
       let count : g.height - y ≡ suc (g.height - (y + 1)) = omega (arith, inside) in
-      let row : List ℕ = row_bits g.width (row_above g y) (row_of g y) in
+      let row : List ℕ = row_bits g.width (row_above g y) (pixels_of_row g y) in
       let left : ℕ = g.height - (y + 1) in
       let above : row_above g (y + 1) ≡ (λ x. ltb x g.width && pixel_at g x y) = λ i x. below y x i in
       ap (λ (t : List ℕ). t ++ rows_from (y + 1)) bits

@@ -2,7 +2,7 @@
 ghost use Rattle.std.specs.Prelude.{◌≡◌, ◌+◌, ◌/◌, ◌<◌, ◌≤◌, ◌-◌, not, false, if◌then◌else◌};
 ghost use Rattle.jbig2_base.specs.Search.{place_from};
 ghost use Rattle.jbig2_mmr.specs.T6.{is_change, is_change_from};
-ghost use Rattle.jbig2_mmr.specs.inner.T6Reading.{row_of};
+ghost use Rattle.jbig2_mmr.specs.inner.T6Reading.{pixels_of_row};
 
 use jbig2_base::bitmap::Bitmap;
 use jbig2_base::bitmap::colour::find_colour;
@@ -35,11 +35,11 @@ pub fn find_b1<A: Allocator, L: Ledger>(
     requires order { place.a0 < to }
     requires inside { to ≤ bitmap.now.width }
     requires first { place.past_start ≡ false → (place.a0 ≡ 0) × (place.black ≡ false) }
-    ensures value { result ≡ place_from (is_change_from (row_of bitmap.now above) place.black)
+    ensures value { result ≡ place_from (is_change_from (pixels_of_row bitmap.now above) place.black)
         (if place.past_start then place.a0 + 1 else 0) to }
     ensures forward { place.a0 ≤ result }
     ensures within { result ≤ to }
-    ensures colour { result < to → row_of bitmap.now above result ≡ not place.black }
+    ensures colour { result < to → pixels_of_row bitmap.now above result ≡ not place.black }
     ensures steps { steps.new ≡ record steps.old { loads = steps.new.loads } }
     ensures loads { steps.new.loads ≤ steps.old.loads + (2 + (result - place.a0) / 64) }
 {
@@ -61,8 +61,8 @@ pub fn find_b2<A: Allocator, L: Ledger>(
     steps: &mut Steps<L>,
 ) -> u32
     requires inside { to ≤ bitmap.now.width }
-    requires colour { b1 < to → row_of bitmap.now above b1 ≡ not black }
-    ensures value { result ≡ place_from (is_change (row_of bitmap.now above)) (b1 + 1) to }
+    requires colour { b1 < to → pixels_of_row bitmap.now above b1 ≡ not black }
+    ensures value { result ≡ place_from (is_change (pixels_of_row bitmap.now above)) (b1 + 1) to }
     ensures forward { result < to → b1 ≤ result }
     ensures within { result ≤ to }
     ensures steps { steps.new ≡ record steps.old { loads = steps.new.loads } }

@@ -3,7 +3,7 @@ ghost use Rattle.std.specs.Prelude.{◌≡◌, ℕ, ◌+◌, ◌-◌, ◌*◌, �
 ghost use Rattle.jbig2_base.specs.Grid.{max_side};
 ghost use Rattle.jbig2_inverses.specs.RowWriter.{row_bits};
 ghost use Rattle.jbig2_mmr.specs.T6.{row_start};
-ghost use Rattle.jbig2_mmr.specs.inner.T6Reading.{row_above, row_of};
+ghost use Rattle.jbig2_mmr.specs.inner.T6Reading.{row_above, pixels_of_row};
 ghost use Rattle.jbig2_mmr_writer.specs.inner.Places.{AddsMode, IsPlace, head_of, horizontal_code, next_code};
 
 use crate::bits::BitWriter;
@@ -17,7 +17,7 @@ use std::sync::ledger::Ledger;
 
 /// The row above row `y`. Above row 0 it is a row outside, which is white.
 fn reference_row<B: Allocator>(bitmap: &Bitmap<B>, y: u32) -> u32
-    ensures { (x : ℕ) → row_of bitmap.now result x ≡ row_above bitmap.now y x }
+    ensures { (x : ℕ) → pixels_of_row bitmap.now result x ≡ row_above bitmap.now y x }
 {
     if y == 0 { bitmap.height() } else { y - 1 }
 }
@@ -138,7 +138,7 @@ pub fn push_row<A: Allocator, B: Allocator, L: Ledger>(
 ) -> Result<(), AllocError>
     requires { bitmap.now.width ≤ max_side }
     ensures row { OnOk result (writer.new
-        ≡ writer.old ++ row_bits bitmap.now.width (row_above bitmap.now y) (row_of bitmap.now y)) }
+        ≡ writer.old ++ row_bits bitmap.now.width (row_above bitmap.now y) (pixels_of_row bitmap.now y)) }
     ensures steps { steps.new ≡ record steps.old { loads = steps.new.loads } }
     ensures loads { steps.new.loads ≤ steps.old.loads + 7 * (bitmap.now.width + 1) }
 {

@@ -11,7 +11,7 @@ use Rattle.jbig2_base.specs.declared.error.DecodeError.TheVariants.{Region, Segm
 use Rattle.jbig2_base.specs.declared.error.RegionError.TheVariants.{GrayScaleOutOfRange}
 use Rattle.jbig2_base.specs.declared.error.SegmentError.TheVariants.{MissingPatternDictionary, UnknownType}
 use Rattle.jbig2_coder.specs.Causes.{BreaksCustom}
-use Rattle.jbig2_coder.specs.CustomTable.{Step, custom_table, result_of}
+use Rattle.jbig2_coder.specs.CustomTable.{TableStep, custom_table, result_of}
 use Rattle.jbig2_coder.specs.PrefixCode.{Member}
 use Rattle.jbig2_coder.proofs.CustomCauses.{custom_cause}
 use Rattle.jbig2_framing.specs.Segment.{Header, SegmentView}
@@ -176,7 +176,7 @@ a-pattern_dictionary strict bytes =
     let r = patterns_decoded h.0 in
     more (BreaksPatterns h.0) P r (refused-or (BreaksPatterns h.0) r (pattern_cause h.0 r (itself_or_memory r))) (λ e no. inr (h, h_is, no)))
 
-table-step : (p : Place) (s : Step (List Member)) → custom_table p ≡ s → Refused (result_of s) (BreaksCustom p)
+table-step : (p : Place) (s : TableStep (List Member)) → custom_table p ≡ s → Refused (result_of s) (BreaksCustom p)
 table-step p (Ok x) is = tt
 table-step p (Err f) is =
     let refused : Result (List Member) DecodeError = Err f.0 in

@@ -14,7 +14,7 @@ use Rattle.jbig2_base.specs.declared.error.DecodeError.TheVariants as errors
 use Rattle.jbig2_base.specs.declared.error.RegionError.TheVariants.{InvalidCombinationOperator, InvalidDimension}
 use Rattle.jbig2_base.proofs.CauseSteps.{call-cause}
 use Rattle.jbig2_base.proofs.Causes.{cause-next, cause-number, cause-refused, number-there, same-ok, went}
-use Rattle.jbig2_region.specs.Causes.{BreaksRegionInfo, BreaksRows}
+use Rattle.jbig2_region.specs.Causes.{BreaksRegionInfo, BreaksRowCount}
 use Rattle.jbig2_region.specs.GenericHeader.{rows_at}
 use Rattle.jbig2_region.specs.RegionInfo.{region_info_at}
 use Rattle.jbig2_region.specs.declared.region_info.RegionSegmentInfo.{RegionSegmentInfo}
@@ -116,7 +116,7 @@ rows-cause P true height bytes at_end at_rows =
     (λ more. at_rows refl (omega (arith, size, there.0)) (let above = ltb-true height rows.0 more in let value : number_in w32 (length bytes - 4) bytes ≡ rows.0 = ap (λ (x : ℕ × List ℕ). x.0) there.1 in omega (arith, above, value))))
     (λ fits fits_is. tt))
 
-pub rows_have_cause : {X : Type 0} (unknown : Bool) (height : ℕ) (bytes : List ℕ) (r : Result X DecodeError) → IfErr r (λ e. rows_at unknown height bytes ≡ Err e) → HasCause r (BreaksRows unknown height bytes)
+pub rows_have_cause : {X : Type 0} (unknown : Bool) (height : ℕ) (bytes : List ℕ) (r : Result X DecodeError) → IfErr r (λ e. rows_at unknown height bytes ≡ Err e) → HasCause r (BreaksRowCount unknown height bytes)
 rows_have_cause unknown_length height bytes r =
-    let P : DecodeError → Type 0 = BreaksRows unknown_length height bytes in
+    let P : DecodeError → Type 0 = BreaksRowCount unknown_length height bytes in
     call-cause P (rows_at unknown_length height bytes) r (rows-cause P unknown_length height bytes (λ unknown short. (unknown, short)) (λ unknown whole more. (unknown, whole, more)))

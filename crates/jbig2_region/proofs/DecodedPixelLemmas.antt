@@ -7,7 +7,7 @@ use Rattle.jbig2_base.specs.Writes.{with_pixel, with_pixels}
 use Rattle.jbig2_coder.specs.Coder.{Coder, Context, decision, fresh}
 use Rattle.jbig2_region.specs.Steps.{takes_decision}
 use Rattle.jbig2_region.specs.inner.RowCounts.{decided_pixels}
-use Rattle.jbig2_region.specs.inner.DecodedPixels.{DecodesPart, CountsPart, Takes}
+use Rattle.jbig2_region.specs.inner.DecodedPixels.{DecodesPart, CountsPart, TakesPixel}
 use Rattle.jbig2_region.specs.inner.RegionStates.{HasDecoded, counted_decoder, region_state}
 use Rattle.jbig2_region.specs.Raster.{Coding, Region, after_pixel}
 use Rattle.jbig2_region.specs.inner.Rows.{after_pixels}
@@ -57,7 +57,7 @@ PushesColour g g' x y symbol = (c : Bool) → symbol ≡ bit_number c → Pushes
 
 pub codes-next : (coding : Coding) (p : Bool) (x y k : ℕ) (g0 g g' : Grid) (d0 d d' : Coder) (s0 s s' : List Context) (before after : Counts) (known : Option Bool) (n symbol : ℕ)
     → DecodesPart coding p x y k (region_state g0 d0 s0) (region_state g d s) → x + k < g.width → y < g.height → coding.known p g (x + k) y ≡ known → n ≡ coding.context g (x + k) y
-    → PushesColour g g' (x + k) y symbol → Takes known n (counted_decoder d s before) symbol (counted_decoder d' s' after)
+    → PushesColour g g' (x + k) y symbol → TakesPixel known n (counted_decoder d s before) symbol (counted_decoder d' s' after)
     → DecodesPart coding p x y (k + 1) (region_state g0 d0 s0) (region_state g' d' s')
 codes-next coding p x y k g0 g g' d0 d d' s0 s s' before after (Some c) n symbol made left above is_known is_context pushes takes = λ w h input r len predicted has_decoded.
     let next = next-of coding p x y k g0 g d0 d s0 s made left above w h input r len predicted has_decoded in
@@ -83,7 +83,7 @@ decided-one : (coding : Coding) (w h : ℕ) (input : List ℕ) (k : ℕ) (r : Re
 unfolding decided_pixels
 decided-one coding w h input k r = rw add-one
 
-taken-steps : (known : Option Bool) (n : ℕ) (d : Coder) (s : List Context) (before : Counts) (symbol : ℕ) (d' : Coder) (s' : List Context) (after : Counts) → Takes known n (counted_decoder d s before) symbol (counted_decoder d' s' after) → after ≡ record before { decisions = before.decisions + bit_number (is_none known) }
+taken-steps : (known : Option Bool) (n : ℕ) (d : Coder) (s : List Context) (before : Counts) (symbol : ℕ) (d' : Coder) (s' : List Context) (after : Counts) → TakesPixel known n (counted_decoder d s before) symbol (counted_decoder d' s' after) → after ≡ record before { decisions = before.decisions + bit_number (is_none known) }
 taken-steps (Some c) n d s before symbol d' s' after takes = takes.steps ∙ same before
   where
     same : (t : Counts) → t ≡ record t { decisions = t.decisions + 0 }
@@ -92,19 +92,19 @@ taken-steps (Some c) n d s before symbol d' s' after takes = takes.steps ∙ sam
         ap (λ (k : ℕ). let made : Counts = record t { decisions = k } in made) none
 taken-steps None n d s before symbol d' s' after takes = takes.steps
 
-pub taken-decisions : (known : Option Bool) (n : ℕ) (d : Coder) (s : List Context) (before : Counts) (symbol : ℕ) (d' : Coder) (s' : List Context) (after : Counts) → Takes known n (counted_decoder d s before) symbol (counted_decoder d' s' after) → after.decisions ≡ before.decisions + bit_number (is_none known)
+pub taken-decisions : (known : Option Bool) (n : ℕ) (d : Coder) (s : List Context) (before : Counts) (symbol : ℕ) (d' : Coder) (s' : List Context) (after : Counts) → TakesPixel known n (counted_decoder d s before) symbol (counted_decoder d' s' after) → after.decisions ≡ before.decisions + bit_number (is_none known)
 taken-decisions known n d s before symbol d' s' after takes = ap (λ (t : Counts). t.decisions) (taken-steps known n d s before symbol d' s' after takes)
 
-pub taken-others : (known : Option Bool) (n : ℕ) (d : Coder) (s : List Context) (before : Counts) (symbol : ℕ) (d' : Coder) (s' : List Context) (after : Counts) → Takes known n (counted_decoder d s before) symbol (counted_decoder d' s' after) → after ≡ record before { decisions = after.decisions }
+pub taken-others : (known : Option Bool) (n : ℕ) (d : Coder) (s : List Context) (before : Counts) (symbol : ℕ) (d' : Coder) (s' : List Context) (after : Counts) → TakesPixel known n (counted_decoder d s before) symbol (counted_decoder d' s' after) → after ≡ record before { decisions = after.decisions }
 taken-others known n d s before symbol d' s' after takes =
     let all = taken-steps known n d s before symbol d' s' after takes in
     all ∙ ap (λ (k : ℕ). let made : Counts = record before { decisions = k } in made) (sym (ap (λ (t : Counts). t.decisions) all))
 
-pub taken-bytes : (known : Option Bool) (n : ℕ) (d : Coder) (s : List Context) (before : Counts) (symbol : ℕ) (d' : Coder) (s' : List Context) (after : Counts) → Takes known n (counted_decoder d s before) symbol (counted_decoder d' s' after) → d'.bytes ≡ d.bytes
+pub taken-bytes : (known : Option Bool) (n : ℕ) (d : Coder) (s : List Context) (before : Counts) (symbol : ℕ) (d' : Coder) (s' : List Context) (after : Counts) → TakesPixel known n (counted_decoder d s before) symbol (counted_decoder d' s' after) → d'.bytes ≡ d.bytes
 taken-bytes (Some c) n d s before symbol d' s' after takes = ap (λ (q : Coder). q.bytes) takes.coder
 taken-bytes None n d s before symbol d' s' after takes = ap (λ (q : Coder). q.bytes) takes.coder
 
-pub taken-digit : (known : Option Bool) (n : ℕ) (d : Coder) (s : List Context) (before : Counts) (symbol : ℕ) (d' : Coder) (s' : List Context) (after : Counts) → Takes known n (counted_decoder d s before) symbol (counted_decoder d' s' after) → (c : Bool) × (symbol ≡ bit_number c)
+pub taken-digit : (known : Option Bool) (n : ℕ) (d : Coder) (s : List Context) (before : Counts) (symbol : ℕ) (d' : Coder) (s' : List Context) (after : Counts) → TakesPixel known n (counted_decoder d s before) symbol (counted_decoder d' s' after) → (c : Bool) × (symbol ≡ bit_number c)
 taken-digit (Some c) n d s before symbol d' s' after takes = (c, takes.symbol)
 taken-digit None n d s before symbol d' s' after takes = ((decision d.bytes d.registers (get_or s n fresh)).symbol, takes.symbol)
 

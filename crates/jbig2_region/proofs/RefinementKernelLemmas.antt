@@ -5,10 +5,10 @@ use Rattle.jbig2_base.specs.Grid.{Grid, bit_number}
 use Rattle.jbig2_base.specs.Writes.{with_pixels}
 use Rattle.jbig2_coder.specs.Coder.{Coder, Context}
 use Rattle.jbig2_region.specs.Refinement.{Reference, refinement_coding}
-use Rattle.jbig2_region.specs.inner.DecodedPixels.{DecodesPart, CountsPart, Takes}
+use Rattle.jbig2_region.specs.inner.DecodedPixels.{DecodesPart, CountsPart, TakesPixel}
 use Rattle.jbig2_region.specs.inner.Neighbours.{IsLeft}
 use Rattle.jbig2_region.specs.inner.RefinementBlocks.{Block}
-use Rattle.jbig2_region.specs.inner.RefinementWindows.{SeesRows, context_of, corners, four_of, known_of, nine_of}
+use Rattle.jbig2_region.specs.inner.RefinementWindows.{SeesRows, context_made, corners, four_of, known_of, nine_of}
 use Rattle.jbig2_region.specs.Raster.{Coding}
 use Rattle.jbig2_region.specs.declared.refinement_kernel.windows.RefinementWindows.{RefinementWindows}
 use Rattle.jbig2_region.specs.declared.template.RefinementTemplate.{RefinementTemplate}
@@ -28,28 +28,28 @@ more pixels symbol k c is few = rw (add-one k, pow-suc) (step c is)
 
 pub block-next : (template : RefinementTemplate) (typical p : Bool) (r : Reference) (x y k : ℕ) (g : Grid) (w : RefinementWindows) (d0 d d' : Coder) (s0 s s' : List Context) (t0 t t' : Counts) (pixels nine four symbol : ℕ)
     → Block (refinement_coding template typical corners r) p x y k (counted_region g d0 s0 t0) pixels (counted_decoder d s t) → SeesRows g r x y w → k < 32 → x + (k + 1) ≤ g.width → y < g.height
-    → nine ≡ nine_of w k → four ≡ four_of w pixels k → Takes (known_of p nine) (context_of template nine four) (counted_decoder d s t) symbol (counted_decoder d' s' t')
+    → nine ≡ nine_of w k → four ≡ four_of w pixels k → TakesPixel (known_of p nine) (context_made template nine four) (counted_decoder d s t) symbol (counted_decoder d' s' t')
     → Block (refinement_coding template typical corners r) p x y (k + 1) (counted_region g d0 s0 t0) (pixels * 2 + symbol) (counted_decoder d' s' t')
 block-next template typical p r x y k g w d0 d d' s0 s s' t0 t t' pixels nine four symbol block sees few wide above is_nine is_four takes =
     let coding : Coding = refinement_coding template typical corners r in
     let shown : Grid = with_pixels g x y k pixels in
     let known : coding.known p shown (x + k) y ≡ known_of p nine = sym (windows-colour p r g x y k w few sees) ∙ ap (λ (n : ℕ). known_of p n) (sym is_nine) in
-    let context : context_of template nine four ≡ coding.context shown (x + k) y =
-    ap (λ (n : ℕ). context_of template n four) is_nine ∙ ap (λ (n : ℕ). context_of template (nine_of w k) n) is_four ∙ windows-context template r g shown x y k pixels w few (stored-above g x y k pixels) sees block.left in
-    let digit = taken-digit (known_of p nine) (context_of template nine four) d s t symbol d' s' t' takes in
+    let context : context_made template nine four ≡ coding.context shown (x + k) y =
+    ap (λ (n : ℕ). context_made template n four) is_nine ∙ ap (λ (n : ℕ). context_made template (nine_of w k) n) is_four ∙ windows-context template r g shown x y k pixels w few (stored-above g x y k pixels) sees block.left in
+    let digit = taken-digit (known_of p nine) (context_made template nine four) d s t symbol d' s' t' takes in
     record {
-      bytes = taken-bytes (known_of p nine) (context_of template nine four) d s t symbol d' s' t' takes ∙ block.bytes;
+      bytes = taken-bytes (known_of p nine) (context_made template nine four) d s t symbol d' s' t' takes ∙ block.bytes;
       few = more pixels symbol k digit.0 digit.1 block.few;
       left =
           left-whole (with_pixels g x y (k + 1) (pixels * 2 + symbol)) (x + (k + 1)) y (pixels * 2 + symbol)
           (left-bit g x y k pixels pixels symbol digit.0 digit.1 wide above block.left);
       has_decoded =
-          codes-next coding p x y k g shown (with_pixels g x y (k + 1) (pixels * 2 + symbol)) d0 d d' s0 s s' t t' (known_of p nine) (context_of template nine four) symbol block.has_decoded (omega arith) above known context
+          codes-next coding p x y k g shown (with_pixels g x y (k + 1) (pixels * 2 + symbol)) d0 d d' s0 s s' t t' (known_of p nine) (context_made template nine four) symbol block.has_decoded (omega arith) above known context
           (λ c is. stored-push g x y k pixels symbol c is (omega arith) above) takes;
       decisions =
           counts-next coding p x y k g shown d0 d s0 s (known_of p nine) t0.decisions t.decisions t'.decisions block.has_decoded block.decisions (omega arith) above known
-          (taken-decisions (known_of p nine) (context_of template nine four) d s t symbol d' s' t' takes);
-      steps = taken-others (known_of p nine) (context_of template nine four) d s t symbol d' s' t' takes ∙ ap (λ (q : Counts). let made : Counts = record q { decisions = t'.decisions } in made) block.steps;
+          (taken-decisions (known_of p nine) (context_made template nine four) d s t symbol d' s' t' takes);
+      steps = taken-others (known_of p nine) (context_made template nine four) d s t symbol d' s' t' takes ∙ ap (λ (q : Counts). let made : Counts = record q { decisions = t'.decisions } in made) block.steps;
     }
 
 pub block-none : (coding : Coding) (p : Bool) (x y left pixels : ℕ) (g : Grid) (d : Coder) (s : List Context) (t : Counts) → IsLeft g x y left → left < 16 → pixels ≡ left → Block coding p x y 0 (counted_region g d s t) pixels (counted_decoder d s t)

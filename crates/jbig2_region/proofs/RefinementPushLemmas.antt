@@ -8,10 +8,10 @@ use Rattle.jbig2_base.proofs.BitLemmas.{bit-above}
 use Rattle.jbig2_coder.specs.Coder.{Coder, Context}
 use Rattle.jbig2_region.specs.Raster.{Coding}
 use Rattle.jbig2_region.specs.Refinement.{Reference, refinement_coding}
-use Rattle.jbig2_region.specs.inner.DecodedPixels.{Takes}
+use Rattle.jbig2_region.specs.inner.DecodedPixels.{TakesPixel}
 use Rattle.jbig2_region.specs.inner.RefinementBlocks.{Block}
 use Rattle.jbig2_region.specs.inner.RefinementLanes.{Lanes, nine_in, region_in}
-use Rattle.jbig2_region.specs.inner.RefinementWindows.{SeesRows, context_of, corners, four_of, known_of, nine_of, three_of}
+use Rattle.jbig2_region.specs.inner.RefinementWindows.{SeesRows, context_made, corners, four_of, known_of, nine_of, three_of}
 use Rattle.jbig2_region.specs.declared.refinement_kernel.windows.RefinementWindows.{RefinementWindows}
 use Rattle.jbig2_region.specs.declared.template.RefinementTemplate.{RefinementTemplate}
 use Rattle.jbig2_region.specs.declared.template.RefinementTemplate.TheVariants.{Template0, Template1}
@@ -34,24 +34,24 @@ nine-white w k above here below few = rw (three-white w.below k below few, three
 pub four-white : (w : RefinementWindows) (pixels k : ℕ) → pixels % 2 ≡ 0 → three_of w.region k ≡ 0 → 0 ≡ four_of w pixels k
 four-white w pixels k left region = rw (left, region) refl
 
-pub context-white : (template : RefinementTemplate) → context_of template 0 0 ≡ 0
+pub context-white : (template : RefinementTemplate) → context_made template 0 0 ≡ 0
 context-white Template0 = refl
 context-white Template1 = refl
 
 -- ---- a block
 -- one pixel more, whose colour is not known
 pub block-pushed : (template : RefinementTemplate) (typical p : Bool) (r : Reference) (x y k j : ℕ) (g : Grid) (w : RefinementWindows) (d0 d d' : Coder) (s0 s s' : List Context) (t0 t t' : Counts) (pixels context symbol : ℕ)
-    → SeesRows g r x y w → k + (j + 1) ≤ 32 → x + (k + (j + 1)) ≤ g.width → y < g.height → known_of p (nine_of w (k + j)) ≡ None → context ≡ context_of template (nine_of w (k + j)) (four_of w pixels (k + j)) → Takes None context (counted_decoder d s t) symbol (counted_decoder d' s' t')
+    → SeesRows g r x y w → k + (j + 1) ≤ 32 → x + (k + (j + 1)) ≤ g.width → y < g.height → known_of p (nine_of w (k + j)) ≡ None → context ≡ context_made template (nine_of w (k + j)) (four_of w pixels (k + j)) → TakesPixel None context (counted_decoder d s t) symbol (counted_decoder d' s' t')
     → Block (refinement_coding template typical corners r) p x y (k + j) (counted_region g d0 s0 t0) pixels (counted_decoder d s t)
     → Block (refinement_coding template typical corners r) p x y (k + (j + 1)) (counted_region g d0 s0 t0) (pixels * 2 + symbol) (counted_decoder d' s' t')
 block-pushed template typical p r x y k j g w d0 d d' s0 s s' t0 t t' pixels context symbol sees few wide above unknown is takes block =
     let coding : Coding = refinement_coding template typical corners r in
     let place : k + j + 1 ≡ k + (j + 1) = omega arith in
-    let decided : Takes None (context_of template (nine_of w (k + j)) (four_of w pixels (k + j))) (counted_decoder d s t) symbol (counted_decoder d' s' t') = subst (λ (n : ℕ). Takes None n (counted_decoder d s t) symbol (counted_decoder d' s' t')) is takes in
+    let decided : TakesPixel None (context_made template (nine_of w (k + j)) (four_of w pixels (k + j))) (counted_decoder d s t) symbol (counted_decoder d' s' t') = subst (λ (n : ℕ). TakesPixel None n (counted_decoder d s t) symbol (counted_decoder d' s' t')) is takes in
     subst (λ (n : ℕ). Block coding p x y n (counted_region g d0 s0 t0) (pixels * 2 + symbol) (counted_decoder d' s' t')) place
     (block-next template typical p r x y (k + j) g w d0 d d' s0 s s' t0 t t' pixels (nine_of w (k + j)) (four_of w pixels (k + j)) symbol
     block sees (omega arith) (omega arith) above refl refl
-    (subst (λ (known : Option Bool). Takes known (context_of template (nine_of w (k + j)) (four_of w pixels (k + j))) (counted_decoder d s t) symbol (counted_decoder d' s' t')) (sym unknown) decided))
+    (subst (λ (known : Option Bool). TakesPixel known (context_made template (nine_of w (k + j)) (four_of w pixels (k + j))) (counted_decoder d s t) symbol (counted_decoder d' s' t')) (sym unknown) decided))
 
 pub block-opening : (coding : Coding) (p : Bool) (x y k : ℕ) (g : Grid) (d0 d : Coder) (s0 s : List Context) (t0 t : Counts) (pixels : ℕ) → Block coding p x y k (counted_region g d0 s0 t0) pixels (counted_decoder d s t) → Block coding p x y (k + 0) (counted_region g d0 s0 t0) pixels (counted_decoder d s t)
 block-opening coding p x y k g d0 d s0 s t0 t pixels block =
@@ -71,7 +71,7 @@ block-copied template typical p r x y k (suc n) g w d0 d s0 s t0 t pixels sees f
     let so_far : ℕ = pixels * 2 ^ n + w.here / 2 ^ (63 - (k + n)) % 2 ^ n in
     let colour : Bool = bit w.here (62 - (k + n)) in
     let before : Block coding p x y (k + n) (counted_region g d0 s0 t0) so_far (counted_decoder d s t) = block-copied template typical p r x y k n g w d0 d s0 s t0 t pixels sees (omega arith) (omega arith) above (λ i inside. known i (omega arith)) block in
-    let takes : Takes (Some colour) (context_of template (nine_of w (k + n)) (four_of w so_far (k + n))) (counted_decoder d s t) (bit_number colour) (counted_decoder d s t) = record {
+    let takes : TakesPixel (Some colour) (context_made template (nine_of w (k + n)) (four_of w so_far (k + n))) (counted_decoder d s t) (bit_number colour) (counted_decoder d s t) = record {
       symbol = refl;
       coder = refl;
       states = refl;
@@ -80,7 +80,7 @@ block-copied template typical p r x y k (suc n) g w d0 d s0 s t0 t pixels sees f
     let next : Block coding p x y (k + n + 1) (counted_region g d0 s0 t0) (so_far * 2 + bit_number colour) (counted_decoder d s t) =
     block-next template typical p r x y (k + n) g w d0 d d s0 s s t0 t t so_far (nine_of w (k + n)) (four_of w so_far (k + n)) (bit_number colour)
     before sees (omega arith) (omega arith) above refl refl
-    (subst (λ (o : Option Bool). Takes o (context_of template (nine_of w (k + n)) (four_of w so_far (k + n))) (counted_decoder d s t) (bit_number colour) (counted_decoder d s t)) (sym (known n (omega arith))) takes) in
+    (subst (λ (o : Option Bool). TakesPixel o (context_made template (nine_of w (k + n)) (four_of w so_far (k + n))) (counted_decoder d s t) (bit_number colour) (counted_decoder d s t)) (sym (known n (omega arith))) takes) in
     let place : k + n + 1 ≡ k + (n + 1) = omega arith in
     subst (λ (m : ℕ). Block coding p x y (k + m) (counted_region g d0 s0 t0) (pixels * 2 ^ m + w.here / 2 ^ (63 - (k + m)) % 2 ^ m) (counted_decoder d s t)) (add-one n)
     (subst (λ (m : ℕ). Block coding p x y (k + (n + 1)) (counted_region g d0 s0 t0) m (counted_decoder d s t)) (copied-next pixels w.here k n (omega arith))
@@ -99,9 +99,9 @@ pixels-more pixels symbol k j few small =
     rw (place, add-one (k + j), pow-suc) (omega arith)
 
 -- the context of the next pixel, by the lanes that show it
-pub context-shown : (template : RefinementTemplate) (w : RefinementWindows) (k n lanes left pixels context : ℕ) → k < 32 → Lanes w k n lanes → context ≡ context_of template (nine_in lanes) (left + region_in lanes * 2) → left ≡ pixels % 2
-    → context ≡ context_of template (nine_of w k) (four_of w pixels k)
+pub context-shown : (template : RefinementTemplate) (w : RefinementWindows) (k n lanes left pixels context : ℕ) → k < 32 → Lanes w k n lanes → context ≡ context_made template (nine_in lanes) (left + region_in lanes * 2) → left ≡ pixels % 2
+    → context ≡ context_made template (nine_of w k) (four_of w pixels k)
 context-shown template w k n lanes left pixels context few shown is low =
-    is ∙ ap (λ (m : ℕ). context_of template m (left + region_in lanes * 2)) (lanes-nine w k n lanes few shown)
-    ∙ ap (λ (m : ℕ). context_of template (nine_of w k) (left + m * 2)) (lanes-region w k n lanes few shown)
-    ∙ ap (λ (m : ℕ). context_of template (nine_of w k) (m + three_of w.region k * 2)) low
+    is ∙ ap (λ (m : ℕ). context_made template m (left + region_in lanes * 2)) (lanes-nine w k n lanes few shown)
+    ∙ ap (λ (m : ℕ). context_made template (nine_of w k) (left + m * 2)) (lanes-region w k n lanes few shown)
+    ∙ ap (λ (m : ℕ). context_made template (nine_of w k) (m + three_of w.region k * 2)) low

@@ -11,7 +11,7 @@ use Rattle.jbig2_region.specs.Generic.{number_of, region_pixel}
 use Rattle.jbig2_region.specs.Refinement.{Reference, reference_pixel, refined_context, nine, common_colour}
 use Rattle.jbig2_region.specs.RefinementTemplates.{at_xy, reference_pixels, region_pixels}
 use Rattle.jbig2_region.specs.inner.Neighbours.{IsLeft, SameAbove}
-use Rattle.jbig2_region.specs.inner.RefinementWindows.{Sees, SeesRows, colour_of, context_of, corners, four_of, known_of, nine_of, three_of}
+use Rattle.jbig2_region.specs.inner.RefinementWindows.{Sees, SeesRows, colour_of, context_made, corners, four_of, known_of, nine_of, three_of}
 use Rattle.jbig2_region.specs.declared.refinement_kernel.windows.RefinementWindows.{RefinementWindows}
 use Rattle.jbig2_region.specs.declared.template.RefinementTemplate.{RefinementTemplate}
 use Rattle.jbig2_region.specs.declared.template.RefinementTemplate.TheVariants.{Template0, Template1}
@@ -159,7 +159,7 @@ context-1 b0 b1 b2 b3 b4 b5 b6 b7 b8 c0 c1 c2 c3 below here above left region is
 
 -- the context at the pixel k columns after the windows' column
 pub windows-context : (template : RefinementTemplate) (r : Reference) (g g' : Grid) (x y k left : ℕ) (w : RefinementWindows) → k < 32 → SameAbove g g' y → SeesRows g r x y w → IsLeft g' (x + k) y left
-    → context_of template (nine_of w k) (four_of w left k) ≡ refined_context r (reference_pixels template corners) (region_pixels template corners) g' (x + k) y
+    → context_made template (nine_of w k) (four_of w left k) ≡ refined_context r (reference_pixels template corners) (region_pixels template corners) g' (x + k) y
 unfolding refined_context
 windows-context Template0 r g g' x y k left w few same sees is =
     context-0 _ _ _ _ _ _ _ _ _ _ _ _ _ (three_of w.below k) (three_of w.here k) (three_of w.above k) (left % 2) (three_of w.region k)

@@ -8,7 +8,7 @@ use Rattle.jbig2_base.specs.Grid.{Grid, bit_number, same_colour}
 use Rattle.jbig2_base.specs.Bits.{bit}
 use Rattle.jbig2_base.specs.Writes.{with_pixel, with_pixels}
 use Rattle.jbig2_coder.specs.Coder.{Coder, Context, Decision, Registers, decision, fresh, is_quiet, all_quiet}
-use Rattle.jbig2_coder.specs.Table.{row_of}
+use Rattle.jbig2_coder.specs.Table.{qe_row}
 use Rattle.jbig2_coder.proofs.Runs.{is_quiet-decision}
 use Rattle.jbig2_region.specs.Generic.{context_at}
 use Rattle.jbig2_region.specs.inner.RegionStates.{HasDecoded, region_state}
@@ -41,14 +41,14 @@ more-fallen a qe k =
     omega arith
 
 -- each decision of a quiet run is quiet
-quiet-at : (n : ℕ) (bytes : List ℕ) (s : Registers) (x : Context) (k : ℕ) → all_quiet n bytes s x ≡ true → k < n → is_quiet (lowered s (k * (row_of x.row).qe)) x ≡ true
+quiet-at : (n : ℕ) (bytes : List ℕ) (s : Registers) (x : Context) (k : ℕ) → all_quiet n bytes s x ≡ true → k < n → is_quiet (lowered s (k * (qe_row x.row).qe)) x ≡ true
 unfolding all_quiet
 quiet-at zero bytes s x k all inside = absurd (omega arith)
 quiet-at (suc n) bytes s x zero all inside =
-    let same : s.a ≡ s.a - 0 * (row_of x.row).qe = omega arith in
+    let same : s.a ≡ s.a - 0 * (qe_row x.row).qe = omega arith in
     ap (λ (a : ℕ). let q : Registers = record { a = a; code = s.code } in is_quiet q x) (sym same) ∙ (and_parts _ _ all).0
 quiet-at (suc n) bytes s x (suc k) all inside =
-    let qe : ℕ = (row_of x.row).qe in
+    let qe : ℕ = (qe_row x.row).qe in
     let parts = and_parts (is_quiet s x) _ all in
     let next = is_quiet-decision bytes s x parts.0 in
     let rest : all_quiet n bytes (lowered s qe) x ≡ true = subst (λ (d : Decision). all_quiet n bytes d.registers d.context ≡ true) next parts.1 in
@@ -69,13 +69,13 @@ quiet-first (suc n) m bytes s x all =
     let parts = and_parts (is_quiet s x) _ (sym (ap (λ (k : ℕ). all_quiet k bytes s x) place) ∙ all) in
     and_from _ _ parts.0 (quiet-first n m bytes _ _ parts.1)
 
-quiet-rest : (n m : ℕ) (bytes : List ℕ) (s : Registers) (x : Context) → all_quiet (n + m) bytes s x ≡ true → all_quiet m bytes (lowered s (n * (row_of x.row).qe)) x ≡ true
+quiet-rest : (n m : ℕ) (bytes : List ℕ) (s : Registers) (x : Context) → all_quiet (n + m) bytes s x ≡ true → all_quiet m bytes (lowered s (n * (qe_row x.row).qe)) x ≡ true
 unfolding all_quiet
 quiet-rest zero m bytes s x all =
     let place : 0 + m ≡ m = omega arith in
-    ap (λ (q : Registers). all_quiet m bytes q x) (sym (no-fall s (row_of x.row).qe)) ∙ sym (ap (λ (k : ℕ). all_quiet k bytes s x) place) ∙ all
+    ap (λ (q : Registers). all_quiet m bytes q x) (sym (no-fall s (qe_row x.row).qe)) ∙ sym (ap (λ (k : ℕ). all_quiet k bytes s x) place) ∙ all
 quiet-rest (suc n) m bytes s x all =
-    let qe : ℕ = (row_of x.row).qe in
+    let qe : ℕ = (qe_row x.row).qe in
     let place : suc n + m ≡ suc (n + m) = omega arith in
     let parts = and_parts (is_quiet s x) _ (sym (ap (λ (k : ℕ). all_quiet k bytes s x) place) ∙ all) in
     let next = is_quiet-decision bytes s x parts.0 in
@@ -117,7 +117,7 @@ same-symbol false false e = refl
 
 -- a region once k pixels of a run are decoded
 abbrev pub ran : List AdaptiveTemplatePixel → Bool → ℕ → Region → Region
-ran template c k r = record { pixels = r.pixels ++ replicate k c; predicted = false; registers = lowered r.registers (k * (row_of (get_or r.contexts (all_of template c) fresh).row).qe); contexts = r.contexts }
+ran template c k r = record { pixels = r.pixels ++ replicate k c; predicted = false; registers = lowered r.registers (k * (qe_row (get_or r.contexts (all_of template c) fresh).row).qe); contexts = r.contexts }
 
 pub run-length : (bits : List Bool) (c : Bool) (k y w x : ℕ) → length bits ≡ y * w + x → length (bits ++ replicate k c) ≡ y * w + (x + k)
 run-length bits c k y w x len = length-append bits (replicate k c) ∙ rw (length-replicate k c, len) (omega arith)
@@ -133,8 +133,8 @@ ran-next template c input k r quiet colour =
     let symbol : (decision input q read).symbol ≡ c = ap (λ (d : Decision). d.symbol) decided ∙ same-symbol c read.likely colour in
     let list : (r.pixels ++ replicate k c) ++ (decision input q read).symbol ∷ [] ≡ r.pixels ++ replicate (suc k) c =
     ap (λ (b : Bool). (r.pixels ++ replicate k c) ++ b ∷ []) symbol ∙ append_assoc r.pixels (replicate k c) (c ∷ []) ∙ ap (λ (l : List Bool). r.pixels ++ l) (replicate-append-replicate k 1 c ∙ ap (λ (n : ℕ). replicate n c) next) in
-    let fall : (decision input q read).registers ≡ lowered r.registers (suc k * (row_of read.row).qe) =
-    ap (λ (d : Decision). d.registers) decided ∙ ap (λ (a : ℕ). let t : Registers = record { a = a; code = r.registers.code } in t) (more-fallen r.registers.a (row_of read.row).qe k) in
+    let fall : (decision input q read).registers ≡ lowered r.registers (suc k * (qe_row read.row).qe) =
+    ap (λ (d : Decision). d.registers) decided ∙ ap (λ (a : ℕ). let t : Registers = record { a = a; code = r.registers.code } in t) (more-fallen r.registers.a (qe_row read.row).qe k) in
     let states : set r.contexts (all_of template c) (decision input q read).context ≡ r.contexts = ap (λ (d : Decision). set r.contexts (all_of template c) d.context) decided ∙ set-get_or r.contexts (all_of template c) fresh in
     λ i. record { pixels = list i; predicted = false; registers = fall i; contexts = states i }
 
@@ -150,7 +150,7 @@ pub run-region : (template : List AdaptiveTemplatePixel) (c : Bool) (w h : ℕ) 
     → after_pixels (row_coding template) w h input k r ≡ ran template c k r
 unfolding after_pixels
 run-region template c w h input x y zero m r few len left above predicted is =
-    let qe : ℕ = (row_of (get_or r.contexts (all_of template c) fresh).row).qe in
+    let qe : ℕ = (qe_row (get_or r.contexts (all_of template c) fresh).row).qe in
     λ i. record { pixels = sym (append-nil r.pixels) i; predicted = predicted i; registers = no-fall r.registers qe i; contexts = r.contexts }
 run-region template c w h input x y (suc k) m r few len left above predicted is =
     let at : Region = ran template c k r in
@@ -162,7 +162,7 @@ run-region template c w h input x y (suc k) m r few len left above predicted is 
     ∙ ran-next template c input k r (quiet-at m input r.registers (get_or r.contexts (all_of template c) fresh) k parts.1.1 (omega arith)) parts.1.0
 
 pub run-has_decoded : (template : List AdaptiveTemplatePixel) (c : Bool) (g : Grid) (d d' : Coder) (s : List Context) (w h : ℕ) (input : List ℕ) (x y m : ℕ) (r : Region) → length r.pixels ≡ y * w + x → x + m < w → y < h → r.predicted ≡ false → HasDecoded w h input r (region_state g d s)
-    → is_run_for template w h d.bytes r c m ≡ true → d' ≡ record d { registers = record d.registers { a = d.registers.a - m * (row_of (get_or s (all_of template c) fresh).row).qe } }
+    → is_run_for template w h d.bytes r c m ≡ true → d' ≡ record d { registers = record d.registers { a = d.registers.a - m * (qe_row (get_or s (all_of template c) fresh).row).qe } }
     → HasDecoded w h input (after_pixels (row_coding template) w h input m r) (region_state (with_pixels g x y m (full m c)) d' s)
 run-has_decoded template c g d d' s w h input x y m r len left above predicted has_decoded is after =
     let same : get_or s (all_of template c) fresh ≡ get_or r.contexts (all_of template c) fresh = ap (λ (l : List Context). get_or l (all_of template c) fresh) has_decoded.contexts in
@@ -171,7 +171,7 @@ run-has_decoded template c g d d' s w h input x y m r len left above predicted h
     (record {
       pixels = run-grid w h r.pixels g c x y m has_decoded.pixels len (omega arith) above;
       bytes = ap (λ (q : Coder). q.bytes) after ∙ has_decoded.bytes;
-      registers = ap (λ (q : Coder). q.registers) after ∙ ap (λ (q : Context). lowered d.registers (m * (row_of q.row).qe)) same ∙ ap (λ (q : Registers). lowered q (m * (row_of (get_or r.contexts (all_of template c) fresh).row).qe)) has_decoded.registers;
+      registers = ap (λ (q : Coder). q.registers) after ∙ ap (λ (q : Context). lowered d.registers (m * (qe_row q.row).qe)) same ∙ ap (λ (q : Registers). lowered q (m * (qe_row (get_or r.contexts (all_of template c) fresh).row).qe)) has_decoded.registers;
       contexts = has_decoded.contexts;
     })
 
@@ -190,7 +190,7 @@ run-byte template c w h input n m rest r sum is =
     let two = and_parts (same_colour c read.likely) _ one.1 in
     let quiet : all_quiet (n + (8 + rest)) input r.registers read ≡ true = subst (λ (k : ℕ). all_quiet k input r.registers read ≡ true) sum two.1 in
     and_from _ _ (stays-part template w h c n 8 m r.pixels (omega arith) one.0)
-    (and_from _ _ two.0 (quiet-first 8 rest input (lowered r.registers (n * (row_of read.row).qe)) read (quiet-rest n (8 + rest) input r.registers read quiet)))
+    (and_from _ _ two.0 (quiet-first 8 rest input (lowered r.registers (n * (qe_row read.row).qe)) read (quiet-rest n (8 + rest) input r.registers read quiet)))
 
 -- no context is all black and all white
 colours-apart : (size : ℕ) (c : Bool) → 1 ≤ size → full size c ≡ full size (not c) → ⊥

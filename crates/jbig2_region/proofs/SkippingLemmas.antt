@@ -12,7 +12,7 @@ use Rattle.jbig2_region.specs.inner.RowCounts.{decided_rows}
 use Rattle.jbig2_region.specs.Generic.{context_at, is_skipped}
 use Rattle.jbig2_region.specs.Raster.{Coding, Region, at_pixel}
 use Rattle.jbig2_region.specs.{Steps.{CountsSkipping, kept_pixels, skipping_loads, skipping_words}, Generic.{skipping_coding}}
-use Rattle.jbig2_region.specs.inner.DecodedPixels.{Takes}
+use Rattle.jbig2_region.specs.inner.DecodedPixels.{TakesPixel}
 use Rattle.jbig2_region.specs.inner.Masks.{IsMask, plain_context}
 use Rattle.jbig2_region.specs.inner.Neighbours.{IsLeft, IsNear, SameAbove, Shows, left_pixels, nominal_pixels, stretch_pixels}
 use Rattle.jbig2_region.specs.inner.RefinementBlocks.{Block}
@@ -54,7 +54,7 @@ colour_of skipped = cond skipped (Some false) None
 
 pub skipping-next : (n : Neighbours) (skip : Option Grid) (x y k : ℕ) (g : Grid) (w : Windows) (mask : ℕ) (d0 d d' : Coder) (s0 s s' : List Context) (t0 t t' : Counts) (pixels context symbol : ℕ) (skipped : Bool)
     → Block (skipping_coding (nominal_pixels n) skip) false x y k (counted_region g d0 s0 t0) pixels (counted_decoder d s t) → IsNear n → Shows g x y 64 w → IsMask skip x y mask → k < 32 → x + (k + 1) ≤ g.width → y < g.height
-    → context ≡ plain_context n w (pixels % 16) k → skipped ≡ bit mask (31 - k) → Takes (colour_of skipped) context (counted_decoder d s t) symbol (counted_decoder d' s' t')
+    → context ≡ plain_context n w (pixels % 16) k → skipped ≡ bit mask (31 - k) → TakesPixel (colour_of skipped) context (counted_decoder d s t) symbol (counted_decoder d' s' t')
     → Block (skipping_coding (nominal_pixels n) skip) false x y (k + 1) (counted_region g d0 s0 t0) (pixels * 2 + symbol) (counted_decoder d' s' t')
 skipping-next n skip x y k g w mask d0 d d' s0 s s' t0 t t' pixels context symbol skipped block near shows masks few wide above is_context is_skip takes =
     let coding : Coding = skipping_coding (nominal_pixels n) skip in

@@ -40,11 +40,11 @@ BreaksPixels count place bytes (errors.Template InvalidAtPixel) =
 BreaksPixels count place bytes _ = ⊥
 
 -- ---- generic regions (7.4.6): if the segment's length is unknown, the last four bytes are the number of rows
-abbrev pub BreaksRows : Bool → ℕ → List ℕ → DecodeError → Type 0
-BreaksRows unknown height bytes (errors.Parse UnexpectedEof) = (unknown ≡ true) × (length bytes < 4)
-BreaksRows unknown height bytes (errors.Region InvalidDimension) =
+abbrev pub BreaksRowCount : Bool → ℕ → List ℕ → DecodeError → Type 0
+BreaksRowCount unknown height bytes (errors.Parse UnexpectedEof) = (unknown ≡ true) × (length bytes < 4)
+BreaksRowCount unknown height bytes (errors.Region InvalidDimension) =
     (unknown ≡ true) × (4 ≤ length bytes) × (height < number_in w32 (length bytes - 4) bytes)
-BreaksRows unknown height bytes _ = ⊥
+BreaksRowCount unknown height bytes _ = ⊥
 
 -- how many adaptive pixels the flags at byte 17 ask for; they begin at byte 18
 abbrev pub pixels_in : List ℕ → ℕ

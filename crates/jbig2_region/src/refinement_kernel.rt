@@ -5,7 +5,7 @@ ghost use Rattle.jbig2_base.specs.Grid.{pixel_at, max_side};
 ghost use Rattle.jbig2_base.specs.Bits.{bit};
 ghost use Rattle.jbig2_region.specs.Steps.{CountsDecided, window_loads};
 ghost use Rattle.jbig2_region.specs.RefinementTemplates.{refinement_bits};
-ghost use Rattle.jbig2_region.specs.inner.DecodedPixels.{Takes};
+ghost use Rattle.jbig2_region.specs.inner.DecodedPixels.{TakesPixel};
 ghost use Rattle.jbig2_region.specs.inner.RegionStates.{DecodesRegion, IsReady, counted_decoder, counted_region, region_state, source_of};
 ghost use Rattle.jbig2_region.specs.inner.Neighbours.{IsLeft};
 ghost use Rattle.jbig2_region.specs.inner.RefinementBlocks.{MovesBlock};
@@ -49,7 +49,7 @@ fn decide_pixel<L: Ledger>(
     steps: &mut Steps<L>,
 ) -> u32
     requires context { context < length contexts.old }
-    ensures takes { Takes None context (counted_decoder decoder.old contexts.old steps.old) result
+    ensures takes { TakesPixel None context (counted_decoder decoder.old contexts.old steps.old) result
         (counted_decoder decoder.new contexts.new steps.new) }
     ensures digit { result < 2 }
     ensures contexts { length contexts.new ≡ length contexts.old }

@@ -1,8 +1,8 @@
 //! The templates of generic regions (T.88, 6.2.5.3) and of refinements (6.3.5.3), and their adaptive
 //! pixels.
-ghost use Rattle.std.specs.Prelude.{◌≡◌, ◌%◌, pos};
+ghost use Rattle.std.specs.Prelude.{◌≡◌, ◌%◌, ◌^◌, ◌<◌, pos};
 ghost use Rattle.jbig2_region.specs.RefinementTemplates.{refinement_bits, refinement_template_of};
-ghost use Rattle.jbig2_region.specs.Templates.{template_of, context_bits, nominal_adaptive_pixels};
+ghost use Rattle.jbig2_region.specs.Templates.{template_of, context_bits, nominal_adaptive_pixels, row_context};
 ghost use Rattle.jbig2_region.specs.inner.PixelArrays.{pixel_array, four_pixels};
 
 pub(crate) mod adaptive;
@@ -11,6 +11,9 @@ pub(crate) mod layouts;
 pub(crate) mod neighbours;
 pub(crate) mod pixels;
 pub(crate) mod refinement;
+
+pub use layouts::nominal_neighbours;
+pub use neighbours::{Neighbours, Stretch};
 
 /// Which pixels a context is made from.
 #[derive(Clone, Copy, Debug, PartialEq, Eq)]
@@ -42,6 +45,19 @@ impl Template {
             Template::Template0 => 16,
             Template::Template1 => 13,
             Template::Template2 | Template::Template3 => 10,
+        }
+    }
+
+    /// The context of the decision that begins a row under typical prediction (T.88, 6.2.5.7).
+    pub fn row_context(self) -> u16
+        ensures value { result ≡ row_context self }
+        ensures small { result < 2 ^ context_bits self }
+    {
+        match self {
+            Template::Template0 => 0x9B25,
+            Template::Template1 => 0x0795,
+            Template::Template2 => 0x00E5,
+            Template::Template3 => 0x0195,
         }
     }
 

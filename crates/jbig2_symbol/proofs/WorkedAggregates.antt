@@ -10,7 +10,7 @@ use Rattle.jbig2_base.specs.declared.error.DecodeError.TheVariants.{Symbol}
 use Rattle.jbig2_base.specs.declared.error.SymbolError.TheVariants.{Invalid, OutOfRange}
 use Rattle.jbig2_coder.specs.Coder.{byte_at, byte_in, byte_in_if_empty, shift_left, renormd, initial_registers, likely_next, unlikely_next, choice, decision}
 use Rattle.jbig2_coder.specs.PrefixCode.{is_crowded, weight, prefix_code, shorter, decoded_value, read_code}
-use Rattle.jbig2_coder.specs.Table.{rows, row_of}
+use Rattle.jbig2_coder.specs.Table.{rows, qe_row}
 use Rattle.jbig2_coder.specs.Tables.{lines_a, lines_b, lines_d, lines_f, lines_h, lines_k, lines_o}
 use Rattle.jbig2_region.specs.Raster.{so_far, with_next, after_pixel, after_ltp, at_next, first_pixels, decoded_region}
 use Rattle.jbig2_region.specs.Refinement.{refined_context}
@@ -39,7 +39,7 @@ one_symbol coded = 0x10 ∷ 3 ∷ 0 ∷ 0 ∷ 0 ∷ 1 ∷ 0 ∷ 0 ∷ 0 ∷ 1 �
 
 -- a white symbol refined into a black one, with no bytes of its own
 row_R8_2 : dictionary white (one_symbol (0x41 ∷ 0 ∷ 0xFC ∷ 0x21 ∷ [])) ≡ Ok (record { exported = dot ∷ []; kept = None })
-unfolding dictionary symbol_header_at symbol_flags_of symbols_decoded first_contexts symbol_tables is_crowded weight table_for classes_from height_class drawn_class symbols_from next_width prefixed_aggregate instance_count refined_alone put_together exports runs_from next_run exported_from ended_runs decoded_value read_code least prefix_code shorter lines_a lines_b lines_d lines_o bits_left bits_on table pixel_at refined_by decoded_region first_pixels at_next after_pixel with_next after_ltp so_far refined_context byte_at byte_in byte_in_if_empty shift_left renormd initial_registers likely_next unlikely_next choice decision rows row_of refinement_pixels_at
+unfolding dictionary symbol_header_at symbol_flags_of symbols_decoded first_contexts symbol_tables is_crowded weight table_for classes_from height_class drawn_class symbols_from next_width prefixed_aggregate instance_count refined_alone put_together exports runs_from next_run exported_from ended_runs decoded_value read_code least prefix_code shorter lines_a lines_b lines_d lines_o bits_left bits_on table pixel_at refined_by decoded_region first_pixels at_next after_pixel with_next after_ltp so_far refined_context byte_at byte_in byte_in_if_empty shift_left renormd initial_registers likely_next unlikely_next choice decision rows qe_row refinement_pixels_at
 row_R8_2 = refl
 
 -- an id that is not there yet

@@ -8,7 +8,7 @@ use Rattle.jbig2_coder.specs.Coder.{byte_at, byte_in, byte_in_if_empty, shift_le
 use Rattle.jbig2_coder.specs.Encoder.{initial_coding, eight_bits_out, seven_bits_out, byte_out, shift_once, renorme, narrowed_likely, narrowed_unlikely, narrowed_interval, encoding, set_bits, flush_coder, is_full, with_marker, with_context, encode_from, encoded_bytes}
 use Rattle.jbig2_coder.specs.Integers.{integer, value_of_bits, next, read, read_more, ranges, are_next, next_range, signed_number, value_of, integer_by}
 use Rattle.jbig2_coder.specs.PrefixCode.{is_crowded, weight}
-use Rattle.jbig2_coder.specs.Table.{rows, row_of}
+use Rattle.jbig2_coder.specs.Table.{rows, qe_row}
 use Rattle.jbig2_region.specs.Generic.{context_at}
 use Rattle.jbig2_region.specs.Templates.{adaptive_pixel_at}
 use Rattle.jbig2_region.specs.Raster.{so_far, with_next, after_pixel, after_ltp, at_next, first_pixels, decoded_region}
@@ -40,12 +40,12 @@ abbrev coded : List ℕ
 coded = 147 ∷ 252 ∷ 127 ∷ 255 ∷ 172 ∷ []
 
 row_R8_6-bytes : encoded_bytes decisions ≡ coded
-unfolding initial_coding eight_bits_out seven_bits_out byte_out set_bits flush_coder is_full with_marker encode_from encoded_bytes rows row_of likely_next unlikely_next shift_once renorme narrowed_likely narrowed_unlikely narrowed_interval encoding with_context
+unfolding initial_coding eight_bits_out seven_bits_out byte_out set_bits flush_coder is_full with_marker encode_from encoded_bytes rows qe_row likely_next unlikely_next shift_once renorme narrowed_likely narrowed_unlikely narrowed_interval encoding with_context
 row_R8_6-bytes = refl
 
 dictionary : List ℕ → Result Symbols DecodeError
 dictionary bytes = symbol_header_at true bytes >>= λ h. symbols_decoded h.0 [] [] None
 
 row_R8_6 : dictionary (8 ∷ 0 ∷ 2 ∷ 0xFF ∷ 0 ∷ 0 ∷ 0 ∷ 1 ∷ 0 ∷ 0 ∷ 0 ∷ 1 ∷ coded) ≡ Ok (record { exported = record { width = 1; height = 1; pixels = true ∷ [] } ∷ []; kept = None })
-unfolding dictionary symbol_header_at symbol_flags_of adaptive_pixel_at symbols_decoded first_contexts symbol_tables least is_crowded weight coded_start integer_by table_for classes_from height_class drawn_class symbols_from coded_bitmap next_width coded_symbol exports runs_from next_run exported_from ended_runs integer value_of_bits next read read_more ranges are_next next_range signed_number value_of byte_at byte_in byte_in_if_empty shift_left renormd initial_registers likely_next unlikely_next choice decision rows row_of context_at so_far with_next after_pixel after_ltp at_next first_pixels decoded_region table pixel_at
+unfolding dictionary symbol_header_at symbol_flags_of adaptive_pixel_at symbols_decoded first_contexts symbol_tables least is_crowded weight coded_start integer_by table_for classes_from height_class drawn_class symbols_from coded_bitmap next_width coded_symbol exports runs_from next_run exported_from ended_runs integer value_of_bits next read read_more ranges are_next next_range signed_number value_of byte_at byte_in byte_in_if_empty shift_left renormd initial_registers likely_next unlikely_next choice decision rows qe_row context_at so_far with_next after_pixel after_ltp at_next first_pixels decoded_region table pixel_at
 row_R8_6 = refl

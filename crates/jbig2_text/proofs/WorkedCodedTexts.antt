@@ -8,7 +8,7 @@ use Rattle.jbig2_base.specs.declared.error.DecodeError.{DecodeError}
 use Rattle.jbig2_coder.specs.Coder.{byte_at, byte_in, byte_in_if_empty, shift_left, renormd, initial_registers, likely_next, unlikely_next, choice, decision}
 use Rattle.jbig2_coder.specs.Encoder.{initial_coding, eight_bits_out, seven_bits_out, byte_out, shift_once, renorme, narrowed_likely, narrowed_unlikely, narrowed_interval, encoding, set_bits, flush_coder, is_full, with_marker, with_context, encode_from, encoded_bytes}
 use Rattle.jbig2_coder.specs.Integers.{integer, value_of_bits, next, read, read_more, ranges, are_next, next_range, signed_number, value_of, id, integer_by}
-use Rattle.jbig2_coder.specs.Table.{rows, row_of}
+use Rattle.jbig2_coder.specs.Table.{rows, qe_row}
 use Rattle.jbig2_region.specs.RegionInfo.{PlacedRegion, region_info_at}
 use Rattle.jbig2_region.specs.Raster.{so_far, with_next, after_pixel, after_ltp, at_next, first_pixels, decoded_region}
 use Rattle.jbig2_region.specs.Refinement.{refined_context}
@@ -37,7 +37,7 @@ abbrev coded : List ℕ
 coded = 169 ∷ 67 ∷ 255 ∷ 172 ∷ []
 
 row_R8_6-bytes : encoded_bytes decisions ≡ coded
-unfolding initial_coding eight_bits_out seven_bits_out byte_out set_bits flush_coder is_full with_marker encode_from encoded_bytes rows row_of likely_next unlikely_next shift_once renorme narrowed_likely narrowed_unlikely narrowed_interval encoding with_context
+unfolding initial_coding eight_bits_out seven_bits_out byte_out set_bits flush_coder is_full with_marker encode_from encoded_bytes rows qe_row likely_next unlikely_next shift_once renorme narrowed_likely narrowed_unlikely narrowed_interval encoding with_context
 row_R8_6-bytes = refl
 
 -- of one symbol of 1 by 1
@@ -49,7 +49,7 @@ abbrev dot : PlacedRegion
 dot = record { grid = record { width = 8; height = 1; pixels = true ∷ replicate 7 false }; x_location = 0; y_location = 0; combination_operator = Or }
 
 row_R8_6 : region true (0 ∷ 0 ∷ 0 ∷ 8 ∷ 0 ∷ 0 ∷ 0 ∷ 1 ∷ (replicate 9 0 ++ 0 ∷ 0x10 ∷ 0 ∷ 0 ∷ 0 ∷ 1 ∷ coded)) ≡ Ok dot
-unfolding region text_header_at region_info_at text_fields_at text_flags_at text_decoded text_result region_from text_region after_instances with_instance symbol_placed instance_symbol next_cursor strip_start strip_delta least coded_start integer_by integer value_of_bits next read read_more ranges are_next next_range signed_number value_of id byte_at byte_in byte_in_if_empty shift_left renormd initial_registers likely_next unlikely_next choice decision rows row_of drawn_pixel table pixel_at
+unfolding region text_header_at region_info_at text_fields_at text_flags_at text_decoded text_result region_from text_region after_instances with_instance symbol_placed instance_symbol next_cursor strip_start strip_delta least coded_start integer_by integer value_of_bits next read read_more ranges are_next next_range signed_number value_of id byte_at byte_in byte_in_if_empty shift_left renormd initial_registers likely_next unlikely_next choice decision rows qe_row drawn_pixel table pixel_at
 row_R8_6 = refl
 
 -- a white symbol refined into a black one, by template 1
@@ -60,9 +60,9 @@ abbrev refined : List ℕ
 refined = 169 ∷ 108 ∷ 183 ∷ 235 ∷ 223 ∷ 255 ∷ 172 ∷ []
 
 refined-bytes : encoded_bytes refinement ≡ refined
-unfolding initial_coding eight_bits_out seven_bits_out byte_out set_bits flush_coder is_full with_marker encode_from encoded_bytes rows row_of likely_next unlikely_next shift_once renorme narrowed_likely narrowed_unlikely narrowed_interval encoding with_context
+unfolding initial_coding eight_bits_out seven_bits_out byte_out set_bits flush_coder is_full with_marker encode_from encoded_bytes rows qe_row likely_next unlikely_next shift_once renorme narrowed_likely narrowed_unlikely narrowed_interval encoding with_context
 refined-bytes = refl
 
 refined_symbol_by_coder : region false (0 ∷ 0 ∷ 0 ∷ 8 ∷ 0 ∷ 0 ∷ 0 ∷ 1 ∷ (replicate 9 0 ++ 0x80 ∷ 0x12 ∷ 0 ∷ 0 ∷ 0 ∷ 1 ∷ refined)) ≡ Ok dot
-unfolding region text_header_at region_info_at text_fields_at text_flags_at text_decoded text_result region_from text_region after_instances with_instance symbol_placed instance_symbol next_cursor strip_start strip_delta least coded_start integer_by integer value_of_bits next read read_more ranges are_next next_range signed_number value_of id byte_at byte_in byte_in_if_empty shift_left renormd initial_registers likely_next unlikely_next choice decision rows row_of drawn_pixel table pixel_at refined_symbol refinement_deltas refined_outline refined_by decoded_region first_pixels at_next after_pixel with_next after_ltp so_far refined_context refinement_pixels_at
+unfolding region text_header_at region_info_at text_fields_at text_flags_at text_decoded text_result region_from text_region after_instances with_instance symbol_placed instance_symbol next_cursor strip_start strip_delta least coded_start integer_by integer value_of_bits next read read_more ranges are_next next_range signed_number value_of id byte_at byte_in byte_in_if_empty shift_left renormd initial_registers likely_next unlikely_next choice decision rows qe_row drawn_pixel table pixel_at refined_symbol refinement_deltas refined_outline refined_by decoded_region first_pixels at_next after_pixel with_next after_ltp so_far refined_context refinement_pixels_at
 refined_symbol_by_coder = refl

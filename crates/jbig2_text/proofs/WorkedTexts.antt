@@ -10,7 +10,7 @@ use Rattle.jbig2_base.specs.declared.error.DecodeError.TheVariants.{Parse, Symbo
 use Rattle.jbig2_base.specs.declared.error.ParseError.TheVariants.{UnexpectedEof}
 use Rattle.jbig2_base.specs.declared.error.SymbolError.TheVariants.{TooManyInstances}
 use Rattle.jbig2_coder.specs.Coder.{byte_at, byte_in, byte_in_if_empty, shift_left, renormd, initial_registers, likely_next, unlikely_next, choice, decision}
-use Rattle.jbig2_coder.specs.Table.{rows, row_of}
+use Rattle.jbig2_coder.specs.Table.{rows, qe_row}
 use Rattle.jbig2_base.specs.Search.{least}
 use Rattle.jbig2_coder.specs.PrefixCode.{prefix_code, is_crowded, weight, shorter, read_code, decoded_value}
 use Rattle.jbig2_coder.specs.Tables.{lines_a, lines_n, lines_f, lines_h, lines_k}
@@ -102,5 +102,5 @@ transposed_at_bottom_right = refl
 
 -- a white symbol refined into a black one by template 1, with no bytes of its own
 refined_symbol_by_prefix_codes : region_of white true (0 ∷ 0 ∷ 0 ∷ 8 ∷ 0 ∷ 0 ∷ 0 ∷ 1 ∷ (replicate 9 0 ++ 0x80 ∷ 0x13 ∷ 0 ∷ 0 ∷ 0 ∷ 0 ∷ 0 ∷ 1 ∷ 1 ∷ (replicate 17 0 ++ 0 ∷ 8 ∷ 0 ∷ 0x40 ∷ []))) ≡ Ok dot
-unfolding region_of text_header_at region_info_at text_fields_at text_flags_at symbol_codes_from runcodes_at symbol_lengths_at short_lengths runs_at text_decoded text_result region_from text_tables text_region after_instances with_instance symbol_placed instance_symbol next_cursor strip_start strip_delta lines_f lines_h lines_k prefix_code is_crowded weight shorter read_code least decoded_value bits_left bits_on drawn_pixel table pixel_at lines_a lines_n refined_symbol refinement_deltas refined_outline refined_by decoded_region first_pixels at_next after_pixel with_next after_ltp so_far refined_context byte_at byte_in byte_in_if_empty shift_left renormd initial_registers likely_next unlikely_next choice decision rows row_of refinement_pixels_at
+unfolding region_of text_header_at region_info_at text_fields_at text_flags_at symbol_codes_from runcodes_at symbol_lengths_at short_lengths runs_at text_decoded text_result region_from text_tables text_region after_instances with_instance symbol_placed instance_symbol next_cursor strip_start strip_delta lines_f lines_h lines_k prefix_code is_crowded weight shorter read_code least decoded_value bits_left bits_on drawn_pixel table pixel_at lines_a lines_n refined_symbol refinement_deltas refined_outline refined_by decoded_region first_pixels at_next after_pixel with_next after_ltp so_far refined_context byte_at byte_in byte_in_if_empty shift_left renormd initial_registers likely_next unlikely_next choice decision rows qe_row refinement_pixels_at
 refined_symbol_by_prefix_codes = refl

@@ -10,15 +10,16 @@ use Rattle.jbig2_base.proofs.GridLemmas.{pixel_at-right}
 use Rattle.jbig2_coder.specs.Encoder.{Codes, CodingInContexts, HasCoded}
 use Rattle.jbig2_region.specs.Generic.{context_at}
 use Rattle.jbig2_region.specs.Templates.{row_context}
+use Rattle.jbig2_region.specs.inner.Layouts.{nominal_neighbours}
 use Rattle.jbig2_region.specs.declared.template.AdaptiveTemplatePixel.{AdaptiveTemplatePixel}
 use Rattle.jbig2_region.specs.declared.template.Template.{Template}
 use Rattle.jbig2_region.specs.declared.template.Template.TheVariants.{Template0, Template1, Template2, Template3}
 use Rattle.jbig2_inverses.specs.CoderStates.{Entry}
 use Rattle.jbig2_inverses.specs.RegionWriter.{row_above, same_rows}
-use Rattle.jbig2_writer.specs.declared.neighbours.Neighbours.{Neighbours}
+use Rattle.jbig2_region.specs.declared.template.neighbours.Neighbours.{Neighbours}
 use Rattle.jbig2_writer.specs.declared.settings.ArithmeticCoding.{ArithmeticCoding}
 use Rattle.jbig2_writer.specs.inner.Rows.{decisions_of_pixels, places, predicted_before, decisions_of_row, decisions_of_rows, typical_row}
-use Rattle.jbig2_writer.specs.inner.Windows.{CodesOn, IsNarrow, neighbour_pixels, neighbours_of}
+use Rattle.jbig2_writer.specs.inner.Windows.{CodesOn, IsNarrow, neighbour_pixels}
 use Rattle.jbig2_writer.proofs.WindowLemmas.{same-words}
 
 -- ---- typical rows
@@ -127,13 +128,13 @@ pub pixels-all : (s t : CodingInContexts) (template : List AdaptiveTemplatePixel
 pixels-all s t template g y m n e codes = subst (λ (k : ℕ). Codes s t (decisions_of_pixels template g y k)) e codes
 
 -- ---- a row
-pub near : (template : Template) → IsNarrow (neighbours_of template)
+pub near : (template : Template) → IsNarrow (nominal_neighbours template)
 near Template0 = record { left = omega arith; above_reach = omega arith; above_count = omega arith; top_reach = omega arith; top_count = omega arith; few = omega arith }
 near Template1 = record { left = omega arith; above_reach = omega arith; above_count = omega arith; top_reach = omega arith; top_count = omega arith; few = omega arith }
 near Template2 = record { left = omega arith; above_reach = omega arith; above_count = omega arith; top_reach = omega arith; top_count = omega arith; few = omega arith }
 near Template3 = record { left = omega arith; above_reach = omega arith; above_count = omega arith; top_reach = omega arith; top_count = omega arith; few = omega arith }
 
-places-are : (template : Template) → neighbour_pixels (neighbours_of template) ≡ places template
+places-are : (template : Template) → neighbour_pixels (nominal_neighbours template) ≡ places template
 places-are Template0 = refl
 places-are Template1 = refl
 places-are Template2 = refl
@@ -155,13 +156,13 @@ changes false true = refl
 changes false false = refl
 
 -- the pixels of a row, in the places of its template
-at-places : (s t : CodingInContexts) (st : ArithmeticCoding) (g : Grid) (y : ℕ) (n : Neighbours) → n ≡ neighbours_of st.template
+at-places : (s t : CodingInContexts) (st : ArithmeticCoding) (g : Grid) (y : ℕ) (n : Neighbours) → n ≡ nominal_neighbours st.template
     → Codes s t (decisions_of_pixels (neighbour_pixels n) g y g.width) → Codes s t (decisions_of_pixels (places st.template) g y g.width)
 at-places s t st g y n is_n codes =
     subst (λ (template : List AdaptiveTemplatePixel). Codes s t (decisions_of_pixels template g y g.width)) (ap neighbour_pixels is_n ∙ places-are st.template) codes
 
 -- a row that takes no decision SLTP
-pub row-uncoded : (s t : CodingInContexts) (st : ArithmeticCoding) (g : Grid) (y : ℕ) (p : Bool) (n : Neighbours) → st.typical ≡ false → n ≡ neighbours_of st.template
+pub row-uncoded : (s t : CodingInContexts) (st : ArithmeticCoding) (g : Grid) (y : ℕ) (p : Bool) (n : Neighbours) → st.typical ≡ false → n ≡ nominal_neighbours st.template
     → Codes s t (decisions_of_pixels (neighbour_pixels n) g y g.width) → Codes s t (decisions_of_row st g y p)
 row-uncoded s t st g y p n e is_n codes = subst (λ (more : List Entry). Codes s t more) (sym (row-plain st g y p e)) (at-places s t st g y n is_n codes)
 
@@ -177,7 +178,7 @@ row-predicted s t st g y k p same e is_same typical is_k codes =
 
 -- a row that is not typical
 pub row-read : (s t u : CodingInContexts) (st : ArithmeticCoding) (g : Grid) (y k : ℕ) (p same : Bool) (n : Neighbours) → st.typical ≡ true
-    → same ≡ same_rows g.width (λ x. pixel_at g x y) (row_above (pixel_at g) y) → same ≡ false → k ≡ row_context st.template → n ≡ neighbours_of st.template
+    → same ≡ same_rows g.width (λ x. pixel_at g x y) (row_above (pixel_at g) y) → same ≡ false → k ≡ row_context st.template → n ≡ nominal_neighbours st.template
     → Codes s t ((k, not (beq same p)) ∷ []) → Codes t u (decisions_of_pixels (neighbour_pixels n) g y g.width) → Codes s u (decisions_of_row st g y p)
 row-read s t u st g y k p same n e is_same other is_k is_n opens codes =
     let first : Entry = (row_context st.template, differ false p) in

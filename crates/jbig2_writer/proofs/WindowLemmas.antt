@@ -11,7 +11,7 @@ use Rattle.jbig2_region.specs.inner.Neighbours.{side_by_side}
 use Rattle.jbig2_region.specs.declared.template.neighbours.Stretch.{Stretch}
 use Rattle.jbig2_region.proofs.ContextBits.{context-append, joined-lt, length-side, lt-few, pow-few, side-context}
 use Rattle.jbig2_region.proofs.WindowLemmas.{pixel-inside, stretch-context}
-use Rattle.jbig2_writer.specs.declared.neighbours.Neighbours.{Neighbours}
+use Rattle.jbig2_region.specs.declared.template.neighbours.Neighbours.{Neighbours}
 use Rattle.jbig2_writer.specs.declared.windows.Windows.{Windows}
 use Rattle.jbig2_writer.specs.inner.Windows.{IsNarrow, AreWindows, neighbour_pixels}
 

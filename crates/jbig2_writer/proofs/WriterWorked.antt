@@ -4,7 +4,7 @@ use Rattle.jbig2_base.specs.Grid.{grid_of, pixel_at, table}
 use Rattle.jbig2_base.specs.Search.{least}
 use Rattle.jbig2_coder.specs.Coder.{likely_next, unlikely_next}
 use Rattle.jbig2_coder.specs.Encoder.{byte_out, eight_bits_out, encode_from, encoded_bytes, encoding, flush_coder, initial_coding, is_full, narrowed_interval, narrowed_likely, narrowed_unlikely, renorme, set_bits, seven_bits_out, shift_once, with_context, with_marker}
-use Rattle.jbig2_coder.specs.Table.{row_of, rows}
+use Rattle.jbig2_coder.specs.Table.{qe_row, rows}
 use Rattle.jbig2_region.specs.declared.template.Template.TheVariants.{Template0, Template3}
 use Rattle.jbig2_region.specs.Generic.{context_at}
 use Rattle.jbig2_region.specs.Raster.{so_far}
@@ -26,7 +26,7 @@ column : written (record { container = EmbeddedPage; coding = Arithmetic (record
     ≡ Ok (0 ∷ 0 ∷ 0 ∷ 0 ∷ 0x70 ∷ 0 ∷ 0 ∷ 0 ∷ 0 ∷ 1 ∷ 0 ∷ 0 ∷ 0 ∷ 0x13 ∷ 0 ∷ 0 ∷ 0 ∷ 1 ∷ 0 ∷ 0 ∷ 0 ∷ 2 ∷ 0 ∷ 0 ∷ 0 ∷ 0 ∷ 0
     ∷ 0 ∷ 0 ∷ 0 ∷ 1 ∷ 0 ∷ 0 ∷ 0 ∷ 0 ∷ 0 ∷ 1 ∷ 0x66 ∷ 0 ∷ 0 ∷ 0 ∷ 0 ∷ 1 ∷ 0 ∷ 0 ∷ 0 ∷ 0x17 ∷ 0 ∷ 0 ∷ 0 ∷ 1 ∷ 0 ∷ 0
     ∷ 0 ∷ 2 ∷ 0 ∷ 0 ∷ 0 ∷ 0 ∷ 0 ∷ 0 ∷ 0 ∷ 0 ∷ 0 ∷ 0x0E ∷ 2 ∷ 0xFF ∷ 0x0F ∷ 0xFF ∷ 0xAC ∷ [])
-unfolding page_bytes coded_bytes segment_bytes information_bytes generic_bytes info_bytes generic_entries entries_before pixels_before context_at so_far pixel_at table initial_coding eight_bits_out seven_bits_out byte_out set_bits flush_coder is_full with_marker encode_from encoded_bytes rows row_of likely_next unlikely_next shift_once renorme narrowed_likely narrowed_unlikely narrowed_interval encoding with_context
+unfolding page_bytes coded_bytes segment_bytes information_bytes generic_bytes info_bytes generic_entries entries_before pixels_before context_at so_far pixel_at table initial_coding eight_bits_out seven_bits_out byte_out set_bits flush_coder is_full with_marker encode_from encoded_bytes rows qe_row likely_next unlikely_next shift_once renorme narrowed_likely narrowed_unlikely narrowed_interval encoding with_context
 column = refl
 
 -- two black pixels side by side, 11811 in a metre, with four adaptive pixels
@@ -35,7 +35,7 @@ row : written (record { container = EmbeddedPage; coding = Arithmetic (record { 
     ∷ 0 ∷ 0 ∷ 0 ∷ 1 ∷ 0 ∷ 0 ∷ 0 ∷ 0 ∷ 0 ∷ 1 ∷ 0x66 ∷ 0 ∷ 0 ∷ 0 ∷ 0 ∷ 1 ∷ 0 ∷ 0 ∷ 0 ∷ 0x1E ∷ 0 ∷ 0 ∷ 0 ∷ 2 ∷ 0 ∷ 0
     ∷ 0 ∷ 1 ∷ 0 ∷ 0 ∷ 0 ∷ 0 ∷ 0 ∷ 0 ∷ 0 ∷ 0 ∷ 0 ∷ 0 ∷ 3 ∷ 0xFF ∷ 0xFD ∷ 0xFF ∷ 2 ∷ 0xFE ∷ 0xFE ∷ 0xFE ∷ 0xFF ∷ 0x7F
     ∷ 0xFF ∷ 0xAC ∷ [])
-unfolding page_bytes coded_bytes segment_bytes information_bytes generic_bytes info_bytes generic_entries entries_before pixels_before context_at so_far pixel_at table initial_coding eight_bits_out seven_bits_out byte_out set_bits flush_coder is_full with_marker encode_from encoded_bytes rows row_of likely_next unlikely_next shift_once renorme narrowed_likely narrowed_unlikely narrowed_interval encoding with_context
+unfolding page_bytes coded_bytes segment_bytes information_bytes generic_bytes info_bytes generic_entries entries_before pixels_before context_at so_far pixel_at table initial_coding eight_bits_out seven_bits_out byte_out set_bits flush_coder is_full with_marker encode_from encoded_bytes rows qe_row likely_next unlikely_next shift_once renorme narrowed_likely narrowed_unlikely narrowed_interval encoding with_context
 row = refl
 
 -- one black pixel, as MMR data

@@ -7,13 +7,13 @@ ghost use Rattle.jbig2_inverses.specs.RegionWriter.{row_above, same_rows};
 ghost use Rattle.jbig2_writer.specs.inner.Rows.{decisions_of_pixels, decisions_of_row, decisions_of_rows, typical_row};
 ghost use Rattle.jbig2_writer.specs.inner.Windows.{CodesGroup, IsNarrow, neighbour_pixels};
 
-use crate::neighbours::{Neighbours, neighbours_of, row_context};
 use crate::settings::ArithmeticCoding;
 use crate::windows::{Windows, windows_at};
 use jbig2_base::bitmap::Bitmap;
 use jbig2_base::bitmap::steps::Steps;
 use jbig2_base::error::Result;
 use jbig2_coder::mq::ListEncoder;
+use jbig2_region::template::{Neighbours, nominal_neighbours};
 use std::alloc::Allocator;
 use std::sync::ledger::Ledger;
 
@@ -138,13 +138,13 @@ fn push_row<A: Allocator + Clone, B: Allocator, L: Ledger>(
     ensures steps { steps.new ≡ record steps.old { loads = steps.new.loads } }
     ensures loads { steps.new.loads ≤ steps.old.loads + 5 * ((bitmap.now.width + 31) / 32) }
 {
-    let neighbours = neighbours_of(coding.template);
+    let neighbours = nominal_neighbours(coding.template);
     if !coding.typical {
         push_pixels(encoder, neighbours, bitmap, y, steps)?;
         return Ok(false);
     }
     let typical = is_as_above(bitmap, y, steps);
-    encoder.push(row_context(coding.template), typical != predicted)?;
+    encoder.push(coding.template.row_context(), typical != predicted)?;
     if typical {
         return Ok(true);
     }

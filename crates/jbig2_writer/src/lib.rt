@@ -6,7 +6,6 @@
 mod container;
 mod decisions;
 mod error;
-mod neighbours;
 mod packed;
 mod page;
 mod segments;

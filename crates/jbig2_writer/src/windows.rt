@@ -12,9 +12,9 @@ ghost use Rattle.jbig2_region.specs.Generic.{context_at};
 ghost use Rattle.jbig2_region.specs.inner.Neighbours.{IsWindow};
 ghost use Rattle.jbig2_writer.specs.inner.Windows.{IsNarrow, AreWindows, neighbour_pixels};
 
-use crate::neighbours::{Neighbours, Stretch};
 use jbig2_base::bitmap::Bitmap;
 use jbig2_base::bitmap::steps::Steps;
+use jbig2_region::template::{Neighbours, Stretch};
 use std::alloc::Allocator;
 use std::sync::ledger::Ledger;
 

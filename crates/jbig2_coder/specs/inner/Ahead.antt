@@ -24,7 +24,7 @@ inverted_bytes bytes place (suc n) =
     (0xFF - byte_at bytes (place + 1)) * 2 ^ (8 * n) + inverted_bytes bytes (place + 1) n
 
 -- The lowest bits are this many whole bytes after a place, and none of them comes after a byte FF. `ct` bits are above.
-pub record Reads (bytes : List ℕ) (ct ahead place : ℕ) (code : CodeBuffer) : Type 0 where
+pub record ReadsAhead (bytes : List ℕ) (ct ahead place : ℕ) (code : CodeBuffer) : Type 0 where
   pub below : ct < 8
   pub bits : code.bits ≡ ct + 8 * ahead
   pub few : code.bits ≤ 48
@@ -38,7 +38,7 @@ pub record IsAhead (bytes : List ℕ) (code : CodeBuffer) : Type 0 where
   pub ct : ℕ
   pub ahead : ℕ
   pub place : ℕ
-  pub reads : Reads bytes ct ahead place code
+  pub reads : ReadsAhead bytes ct ahead place code
 
 -- the register after this many shifts
 abbrev pub shift_buffer : ℕ → CodeBuffer → CodeBuffer

@@ -9,14 +9,14 @@ use Rattle.jbig2_base.specs.declared.error.ParseError.TheVariants.{UnexpectedEof
 use Rattle.jbig2_base.specs.declared.error.HuffmanError.TheVariants.{InvalidCode}
 use Rattle.jbig2_coder.specs.declared.huffman_table.line.TableLine.{TableLine}
 use Rattle.jbig2_coder.specs.declared.huffman_table.custom.Header.{Header}
-use Rattle.jbig2_coder.specs.CustomTable.{Step, field}
+use Rattle.jbig2_coder.specs.CustomTable.{TableStep, field}
 use Rattle.jbig2_coder.specs.Tables.{out_of_band}
 use Rattle.jbig2_coder.specs.PrefixCode.{Member, CodeReading, shorter, level, line_of, begins_longer, front_number}
 use Rattle.jbig2_coder.specs.PrefixCode.{value_by}
 
 -- the code of a line of l bits
-abbrev pub code_of : ℕ → List TableLine → List TableLine → ℕ
-code_of l lines earlier = shorter l lines + length (level l earlier)
+abbrev pub code_of_level : ℕ → List TableLine → List TableLine → ℕ
+code_of_level l lines earlier = shorter l lines + length (level l earlier)
 
 abbrev pub cut_off_code : {A : Type 0} → ℕ → CodeReading A
 cut_off_code k = record { result = Err (Parse UnexpectedEof); taken = k }
@@ -64,7 +64,7 @@ abbrev pub HasWidths : Header → Type 0
 HasWidths h = (0 < h.prefix_bits) × (h.prefix_bits ≤ 8) × (h.range_bits ≤ 8)
 
 -- the out-of-band line, if the flags ask for one
-abbrev pub last_line : Header → Place → Step (List TableLine)
+abbrev pub last_line : Header → Place → TableStep (List TableLine)
 last_line h p =
     if h.has_out_of_band
     then (field (Huffman InvalidCode) h.prefix_bits p >>= λ (len, place). Ok (out_of_band len ∷ [], place))

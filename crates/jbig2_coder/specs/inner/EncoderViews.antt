@@ -1,15 +1,15 @@
 -- The encoder of the code, as the encoder of the definitions.
 use Rattle.std.specs.Prelude.{ℕ, ◌+◌, ◌-◌, ◌*◌, ◌^◌, ◌<◌, ◌≤◌, List, reverse}
 use Rattle.jbig2_coder.specs.Coder.{Context, fresh}
-use Rattle.jbig2_coder.specs.Encoder.{Writer, Coding}
+use Rattle.jbig2_coder.specs.Encoder.{Writer, EncoderState}
 use Rattle.jbig2_coder.specs.declared.mq.encoder.CodeRegister.{CodeRegister}
 use Rattle.jbig2_coder.specs.declared.mq.encoder.Registers.{Registers}
 
 abbrev pub writer_of : List ℕ → CodeRegister → Writer
 writer_of bytes code = record { register = code.c; wait = code.ct; out = reverse bytes }
 
-abbrev pub coding_of : List ℕ → Registers → Coding
-coding_of bytes registers = record { range = registers.a; writer = writer_of bytes registers.code }
+abbrev pub encoder_state : List ℕ → Registers → EncoderState
+encoder_state bytes registers = record { range = registers.a; writer = writer_of bytes registers.code }
 
 abbrev pub shifted_registers : ℕ → Registers → Registers  -- A and C shifted by so many bits at once
 shifted_registers shifts r =
@@ -29,7 +29,7 @@ pub record IsAtRest (registers : Registers) : Type 0 where
 
 -- the encoder after a decision is coded, and the decision's context then
 abbrev pub Encoding : Type 0
-Encoding = record { coding : Coding; context : Context }
+Encoding = record { coding : EncoderState; context : Context }
 
 -- the context of each number
 abbrev pub Contexts : Type 0

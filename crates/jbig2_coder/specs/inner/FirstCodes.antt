@@ -21,14 +21,14 @@ module _ (lines : List TableLine) (levels : List Level) where
       → Begins v (slice_index_or codes v d)
 
   -- for the bytes from `from` on, the walk goes on at the inner nodes after the first eight levels
-  abbrev pub GoesOn : ℕ → Type 0
-  GoesOn from =
+  abbrev pub WalksOn : ℕ → Type 0
+  WalksOn from =
       (v : ℕ) (more : List ℕ) → v < 256 → from ≤ v → v - from < nodes (groups_of lines (drop 8 levels)) →
       walk_of lines levels 0 (byte_bits v ++ more) ≡ walk (groups_of lines (drop 8 levels)) 8 (v - from) more
 
   pub record AreFirst (table : FirstTable) : Type 0 where
     pub right : AreRight table.codes
-    pub longer : GoesOn table.longer
+    pub longer : WalksOn table.longer
 
 -- The byte v begins with a code of the level. The level's codes have len bits and are numbered from `code` on.
 pub record IsEntry (v : ℕ) (x : FirstCode) (level : Level) (len code : ℕ) : Type 0 where

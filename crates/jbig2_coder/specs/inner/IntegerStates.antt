@@ -19,8 +19,8 @@ IfRead claim prev coder contexts steps =
     (start : Counts) (r : Reading) → HasRead prev_of start r prev coder contexts steps → claim r
 
 -- The same relation holds again after the call has read more bits.
-abbrev pub GoesOn : (Reading → Reading) → ℕ → Coder → List Context → Counts → ℕ → Coder → List Context → Counts → Type 0
-GoesOn on prev coder contexts steps prev' coder' contexts' steps' =
+abbrev pub ReadsOn : (Reading → Reading) → ℕ → Coder → List Context → Counts → ℕ → Coder → List Context → Counts → Type 0
+ReadsOn on prev coder contexts steps prev' coder' contexts' steps' =
     (start : Counts) (r : Reading) → HasRead prev_of start r prev coder contexts steps →
     HasRead prev_of start (on r) prev' coder' contexts' steps'
 

@@ -1,9 +1,9 @@
 //! The probability states of the adaptive coder (T.88, Table E.1).
 
 ghost use Rattle.std.specs.Prelude.{◌≡◌, ◌/◌, ◌<◌, ◌≤◌};
-ghost use Rattle.jbig2_coder.specs.Table.{row_of};
+ghost use Rattle.jbig2_coder.specs.Table.{qe_row};
 ghost use Rattle.jbig2_coder.specs.Coder.{likely_next, unlikely_next};
-ghost use Rattle.jbig2_coder.specs.inner.States.{context_of};
+ghost use Rattle.jbig2_coder.specs.inner.States.{context_in_state};
 
 /// The data of a state: the probability of the less likely symbol, and the next state after the
 /// more and after the less likely one. A state is twice the row of Table E.1, plus 1 if 1 is the
@@ -89,9 +89,9 @@ static STATES: [State; 94] = states![
 #[inline(always)]
 pub(crate) fn state_at(index: u8) -> State
     requires { index < 94 }
-    ensures qe { result.qe ≡ (row_of (index / 2)).qe }
-    ensures likely { context_of result.likely ≡ likely_next (context_of index) }
-    ensures unlikely { context_of result.unlikely ≡ unlikely_next (context_of index) }
+    ensures qe { result.qe ≡ (qe_row (index / 2)).qe }
+    ensures likely { context_in_state result.likely ≡ likely_next (context_in_state index) }
+    ensures unlikely { context_in_state result.unlikely ≡ unlikely_next (context_in_state index) }
     ensures some { 1 ≤ result.qe }
     ensures half { result.qe ≤ 0x5601 }
     ensures likely_state { result.likely < 94 }

@@ -51,50 +51,10 @@ pub(super) fn push_level<A: Allocator>(
     Ok(())
 }
 
-/// How many bits are looked at together.
-const AHEAD: usize = 16;
-
-/// Reads a code from a node down the levels, and gives its line. Returns `ParseError::UnexpectedEof`
-/// if the bits end within the code, or `HuffmanError::InvalidCode` after the first bits that begin no
-/// code.
+/// Reads a code, bit by bit from a node down the levels, and gives its line. Returns
+/// `ParseError::UnexpectedEof` if the bits end within the code, or `HuffmanError::InvalidCode`
+/// after the first bits that begin no code.
 pub(super) fn read_line(
-    lines: &[TableLine],
-    levels: &[Level],
-    node: usize,
-    reader: &mut Reader<'_>,
-) -> Result<TableLine>
-    requires levels { AreLevels lines.now levels.now }
-    requires node { node ≤ length lines.now }
-    requires short { AreShort lines.now }
-    ensures reads { Reads reader.old reader.new result
-        (walk_of lines.now levels.now node (bits_left reader.old)) }
-    ensures short { IfOk result (λ line. line.range_length ≤ 32) }
-{
-    let Some(ahead) = reader.peek_bits(AHEAD as u8) else {
-        return read_by_bits(lines, levels, node, reader);
-    };
-    let mut rest = ahead;
-    let mut inner = node;
-    for depth in 0..levels.len().min(AHEAD) {
-        let level = &levels[depth];
-        let below = AHEAD - 1 - depth;
-        let child = 2 * inner + (rest >> below) as usize;
-        rest = rest % (1 << below);
-        if child < level.count {
-            reader.advance(depth as u8 + 1);
-            return Ok(lines[level.first + child]);
-        }
-        inner = child - level.count;
-        if inner >= level.nodes {
-            reader.advance(depth as u8 + 1);
-            return Err(HuffmanError::InvalidCode.into());
-        }
-    }
-    read_by_bits(lines, levels, node, reader)
-}
-
-/// Does the same bit by bit, for the last bits and for longer codes.
-fn read_by_bits(
     lines: &[TableLine],
     levels: &[Level],
     node: usize,

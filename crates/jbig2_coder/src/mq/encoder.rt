@@ -5,7 +5,7 @@ ghost use Rattle.std.specs.Bool.{OnFalse, OnTrue};
 ghost use Rattle.jbig2_base.specs.Results.{Gives};
 ghost use Rattle.jbig2_base.specs.declared.error.DecodeError.TheVariants.{OutOfMemory};
 ghost use Rattle.jbig2_coder.specs.Encoder.{initial_coding, eight_bits_out, seven_bits_out, byte_out, shift_once, renorme, narrowed_interval, encoding, set_bits, flush_coder, is_full, with_marker};
-ghost use Rattle.jbig2_coder.specs.inner.EncoderViews.{writer_of, coding_of, shifted_registers, HasRoom};
+ghost use Rattle.jbig2_coder.specs.inner.EncoderViews.{writer_of, encoder_state, shifted_registers, HasRoom};
 
 use crate::arithmetic_decoder::ArithmeticDecoderContext;
 use crate::arithmetic_decoder::qe_table::state_at;
@@ -133,7 +133,7 @@ fn renormalize_by_turns<A: Allocator>(
     requires some { 1 ≤ registers.a }
     requires below { registers.a < 0x10000 }
     requires room { HasRoom registers.a registers.code }
-    ensures value { IfOk result (λ r. coding_of bytes.new.items r
+    ensures value { IfOk result (λ r. encoder_state bytes.new.items r
         ≡ renorme 15 registers.a (writer_of bytes.old.items registers.code)) }
     ensures err { IfErr result (λ e. e ≡ OutOfMemory) }
     ensures normal { IfOk result (λ r. 0x8000 ≤ r.a) }
@@ -171,7 +171,7 @@ fn renormalize<A: Allocator>(bytes: &mut Vec<u8, A>, registers: Registers) -> Re
     requires some { 1 ≤ registers.a }
     requires half { registers.a < 0x8000 }
     requires room { HasRoom registers.a registers.code }
-    ensures value { IfOk result (λ r. coding_of bytes.new.items r
+    ensures value { IfOk result (λ r. encoder_state bytes.new.items r
         ≡ renorme 15 registers.a (writer_of bytes.old.items registers.code)) }
     ensures err { IfErr result (λ e. e ≡ OutOfMemory) }
     ensures normal { IfOk result (λ r. 0x8000 ≤ r.a) }
@@ -277,12 +277,12 @@ pub struct ArithmeticEncoder<A: Allocator> {
 }
 
 impl<A: Allocator> Model for ArithmeticEncoder<A> {
-    ghost use Rattle.jbig2_coder.specs.Encoder.{Coding};
-    ghost use Rattle.jbig2_coder.specs.inner.EncoderViews.{coding_of, IsAtRest};
+    ghost use Rattle.jbig2_coder.specs.Encoder.{EncoderState};
+    ghost use Rattle.jbig2_coder.specs.inner.EncoderViews.{encoder_state, IsAtRest};
 
-    ghost Value = { Coding };
+    ghost Value = { EncoderState };
 
-    ghost view = { λ s. coding_of s.bytes.items s.registers };
+    ghost view = { λ s. encoder_state s.bytes.items s.registers };
 
     ghost invariant = { λ s. IsAtRest s.registers };
 }

@@ -4,7 +4,7 @@ ghost use Rattle.std.specs.Bool.{OnTrue};
 ghost use Rattle.jbig2_base.specs.Results.{Returns};
 ghost use Rattle.jbig2_base.specs.Causes.{HasCause};
 ghost use Rattle.jbig2_framing.specs.Causes.{BreaksData};
-ghost use Rattle.jbig2_framing.specs.Segment.{adaptive_bytes, is_end_marker, first_end_marker, unknown_length_of};
+ghost use Rattle.jbig2_framing.specs.Segment.{adaptive_byte_count, is_end_marker, first_end_marker, unknown_length_of};
 ghost use Rattle.jbig2_framing.specs.inner.Fronts.{coded_front_at};
 
 use jbig2_base::error::{Result, SegmentError};
@@ -12,8 +12,8 @@ use jbig2_base::field::{byte_field, bytes_field};
 use jbig2_base::reader::Reader;
 
 /// How many bytes of adaptive pixels a generic region has, by its flags (T.88, 7.4.6.3).
-fn adaptive_bytes(flags: u8) -> usize
-    ensures { result ≡ adaptive_bytes flags }
+fn adaptive_byte_count(flags: u8) -> usize
+    ensures { result ≡ adaptive_byte_count flags }
 {
     if flags % 2 == 1 {
         return 0;
@@ -56,11 +56,11 @@ fn coded_front(reader: &mut Reader<'_>) -> Result<u8>
     ensures value { Returns (λ flags. (flags, reader.new.bytes)) result
         (coded_front_at reader.old.bytes) }
     ensures length { IfOk result
-        (λ flags. length reader.new.bytes + 18 + adaptive_bytes flags ≡ length reader.old.bytes) }
+        (λ flags. length reader.new.bytes + 18 + adaptive_byte_count flags ≡ length reader.old.bytes) }
 {
     bytes_field(reader, 17)?;
     let flags = byte_field(reader)?;
-    bytes_field(reader, adaptive_bytes(flags))?;
+    bytes_field(reader, adaptive_byte_count(flags))?;
     Ok(flags)
 }
 
@@ -75,5 +75,5 @@ pub(super) fn unknown_length(bytes: &[u8]) -> Result<usize>
     let mut reader = Reader::new(bytes);
     let flags = coded_front(&mut reader)?;
     let place = first_end_marker(flags, reader.tail())?;
-    Ok(18 + adaptive_bytes(flags) + place + 6)
+    Ok(18 + adaptive_byte_count(flags) + place + 6)
 }

@@ -65,12 +65,12 @@ module _ (p : GrayScale) where
     Ok (gray_values p.width p.height planes)
 
   -- where the plane after the k highest ones begins
-  abbrev pub plane_start : List ℕ → ℕ → Region
-  plane_start bytes k = no_pixels (after_planes p bytes k).registers (after_planes p bytes k).contexts
+  abbrev pub coded_plane_start : List ℕ → ℕ → Region
+  coded_plane_start bytes k = no_pixels (after_planes p bytes k).registers (after_planes p bytes k).contexts
 
   -- how many rows of the plane after the k highest ones are whole, with either coding
-  abbrev pub coded_rows : List ℕ → ℕ → ℕ
-  coded_rows bytes k = whole_rows plane_coding (source p.width p.height bytes (plane_start bytes k)) p.height
+  abbrev pub whole_coded_rows : List ℕ → ℕ → ℕ
+  whole_coded_rows bytes k = whole_rows plane_coding (source p.width p.height bytes (coded_plane_start bytes k)) p.height
 
   abbrev pub mmr_rows_left : List ℕ → ℕ → ℕ
   mmr_rows_left bytes k = length (rows_of p.width p.height (mmr_left p bytes k)).rows

@@ -7,7 +7,7 @@ ghost use Rattle.jbig2_region.specs.Raster.{fresh_contexts};
 ghost use Rattle.jbig2_region.specs.Templates.{context_bits};
 ghost use Rattle.jbig2_halftone.specs.Steps.{price_of_image};
 ghost use Rattle.jbig2_halftone.specs.WholeCells.{whole_image_rows};
-ghost use Rattle.jbig2_halftone.specs.inner.FunctionResults.{coded_rows, mmr_rows_left};
+ghost use Rattle.jbig2_halftone.specs.inner.FunctionResults.{whole_coded_rows, mmr_rows_left};
 ghost use Rattle.jbig2_halftone.specs.inner.HalftoneViews.{gray_view};
 
 use crate::gray_scale::GrayScaleParams;
@@ -36,7 +36,7 @@ fn count_coded_rows<M: Allocator, A: Allocator + Clone, L: Ledger>(
     requires rows { params.now.height ≤ max_side }
     requires fresh { contexts.old ≡ fresh_contexts (context_bits params.now.template) }
     ensures value { Gives (λ rows. rows) result
-        (Ok (coded_rows (gray_view params.now) bytes.now (params.now.bits_per_pixel - 1))) }
+        (Ok (whole_coded_rows (gray_view params.now) bytes.now (params.now.bits_per_pixel - 1))) }
     ensures paid { CountsWithin
         (price_of_bitmap params.now.width params.now.height * params.now.bits_per_pixel)
         steps.old steps.new }

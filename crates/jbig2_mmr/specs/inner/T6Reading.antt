@@ -46,8 +46,8 @@ ReadRun None room (Some n) left = ⊥
 ReadRun None room None left = Unit {0}
 
 -- row y
-abbrev pub row_of : Grid → ℕ → ℕ → Bool
-row_of g y x = pixel_at g x y
+abbrev pub pixels_of_row : Grid → ℕ → ℕ → Bool
+pixels_of_row g y x = pixel_at g x y
 
 -- the row above row y: white above row 0
 abbrev pub row_above : Grid → ℕ → ℕ → Bool

@@ -19,11 +19,11 @@ span_words from to = (to + 63) / 64 - from / 64
 abbrev pub bits_taken : Bool → ℕ → ℕ → ℕ  -- how many bits a row takes that leaves `left`; all at a fault
 bits_taken whole bits left = if whole then bits - left else bits
 
-abbrev pub IsNear : ℤ → Type 0  -- a distance of at most three pixels to the left (T.6, table 1)
-IsNear distance = (pos 0 -ℤ pos 3) ≤ℤ distance
+abbrev pub IsWithinThree : ℤ → Type 0  -- a distance of at most three pixels to the left (T.6, table 1)
+IsWithinThree distance = (pos 0 -ℤ pos 3) ≤ℤ distance
 
 abbrev pub IsNearMode : Option Mode → Type 0  -- the same for the distance of a vertical mode
 IsNearMode None = Unit {0}
 IsNearMode (Some Pass) = Unit {0}
 IsNearMode (Some Horizontal) = Unit {0}
-IsNearMode (Some (Vertical distance)) = IsNear distance
+IsNearMode (Some (Vertical distance)) = IsWithinThree distance

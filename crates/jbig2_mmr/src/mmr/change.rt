@@ -5,7 +5,7 @@ ghost use Rattle.jbig2_base.specs.Search.{place_from};
 ghost use Rattle.jbig2_base.specs.Bits.{bit};
 ghost use Rattle.jbig2_base.specs.Grid.{differ};
 ghost use Rattle.jbig2_mmr.specs.T6.{left_of, is_change_from};
-ghost use Rattle.jbig2_mmr.specs.inner.T6Reading.{row_of};
+ghost use Rattle.jbig2_mmr.specs.inner.T6Reading.{pixels_of_row};
 ghost use Rattle.jbig2_mmr.specs.Steps.{MovesWithin};
 ghost use Rattle.jbig2_mmr.specs.inner.T6Calls.{IsWordOf};
 
@@ -33,7 +33,7 @@ impl RowWord {
         steps: &mut Steps<L>,
     ) -> RowWord
         requires { 64 * index < 2 ^ 32 }
-        ensures value { IsWordOf (row_of bitmap.now y) result }
+        ensures value { IsWordOf (pixels_of_row bitmap.now y) result }
         ensures index { result.index ≡ index }
         ensures lanes { KeepsLanes steps.old steps.new }
         ensures steps { steps.new ≡ words_loaded 1 steps.old }
@@ -57,8 +57,8 @@ impl RowWord {
         x: u32,
         steps: &mut Steps<L>,
     ) -> RowWord
-        requires { IsWordOf (row_of bitmap.now y) self }
-        ensures value { IsWordOf (row_of bitmap.now y) result }
+        requires { IsWordOf (pixels_of_row bitmap.now y) self }
+        ensures value { IsWordOf (pixels_of_row bitmap.now y) result }
         ensures index { result.index ≡ x / 64 }
         ensures lanes { KeepsLanes steps.old steps.new }
         ensures work { MovesWithin 1 steps.old steps.new }
@@ -89,8 +89,8 @@ pub fn find_change<A: Allocator, L: Ledger>(
     black: bool,
     steps: &mut Steps<L>,
 ) -> u32
-    requires { bit before 0 ≡ left_of (row_of bitmap.now y) (64 * first) }
-    ensures value { result ≡ place_from (is_change_from (row_of bitmap.now y) black) (64 * first)
+    requires { bit before 0 ≡ left_of (pixels_of_row bitmap.now y) (64 * first) }
+    ensures value { result ≡ place_from (is_change_from (pixels_of_row bitmap.now y) black) (64 * first)
         bitmap.now.width }
     ensures lanes { KeepsLanes steps.old steps.new }
     ensures steps { steps.new

@@ -6,8 +6,8 @@ ghost use Rattle.jbig2_base.specs.Grid.{pixel_at};
 ghost use Rattle.jbig2_base.specs.Table.{IsTable};
 ghost use Rattle.jbig2_mmr.specs.T6.{b1_of, after_pass, after_vertical, after_runs, next_step, row};
 ghost use Rattle.jbig2_mmr.specs.inner.T6Calls.{IsWordOf, ReadStep, ReadRow, head_of};
-ghost use Rattle.jbig2_mmr.specs.inner.T6Reading.{row_above, row_of};
-ghost use Rattle.jbig2_mmr.specs.inner.T6Steps.{IsNear, bits_taken, turn_loads, words_after};
+ghost use Rattle.jbig2_mmr.specs.inner.T6Reading.{row_above, pixels_of_row};
+ghost use Rattle.jbig2_mmr.specs.inner.T6Steps.{IsWithinThree, bits_taken, turn_loads, words_after};
 ghost use Rattle.jbig2_mmr.specs.Steps.{MovesWithin};
 
 use crate::mmr::bits::CodeReader;
@@ -88,7 +88,7 @@ pub fn read_row<A: Allocator, L: Ledger>(
 /// The row above row `y`. Above row 0 it is a row outside, which is white.
 fn reference_row<A: Allocator>(bitmap: &Bitmap<A>, y: u32) -> u32
     requires { y < bitmap.now.height }
-    ensures value { (x : ℕ) → row_of bitmap.now result x ≡ row_above bitmap.now y x }
+    ensures value { (x : ℕ) → pixels_of_row bitmap.now result x ≡ row_above bitmap.now y x }
     ensures apart { result ≢ y }
 {
     if y == 0 { bitmap.height() } else { y - 1 }
@@ -106,10 +106,10 @@ fn read_turn<A: Allocator, L: Ledger>(
 ) -> Option<Turn>
     requires column { place.a0 < bitmap.now.width }
     requires first { place.past_start ≡ false → place.a0 ≡ 0 }
-    requires word { IsWordOf (row_of bitmap.now above) word }
+    requires word { IsWordOf (pixels_of_row bitmap.now above) word }
     requires index { word.index ≡ place.a0 / 64 }
     ensures value { ReadStep bitmap.now.width (head_of place)
-        (next_step bitmap.now.width (row_of bitmap.now above) (head_of place) reader.old.left)
+        (next_step bitmap.now.width (pixels_of_row bitmap.now above) (head_of place) reader.old.left)
         result reader.new.left }
     ensures bytes { reader.new.bytes ≡ reader.old.bytes }
     ensures shorter { IfSome result (λ _. length reader.new.left < length reader.old.left) }
@@ -134,10 +134,10 @@ fn pass<A: Allocator, L: Ledger>(
 ) -> Turn
     requires column { place.a0 < bitmap.now.width }
     requires first { place.past_start ≡ false → place.a0 ≡ 0 }
-    requires word { IsWordOf (row_of bitmap.now above) word }
+    requires word { IsWordOf (pixels_of_row bitmap.now above) word }
     requires index { word.index ≡ place.a0 / 64 }
     ensures value { (bits : List ℕ) → ReadStep bitmap.now.width (head_of place)
-        (after_pass bitmap.now.width (row_of bitmap.now above) (head_of place) bits) (Some result)
+        (after_pass bitmap.now.width (pixels_of_row bitmap.now above) (head_of place) bits) (Some result)
         bits }
     ensures lanes { KeepsLanes steps.old steps.new }
     ensures work { MovesWithin (turn_loads bitmap.now.width place.a0 (Some result)) steps.old
@@ -207,13 +207,13 @@ fn vertical<A: Allocator, L: Ledger>(
 ) -> Option<Turn>
     requires column { place.a0 < bitmap.now.width }
     requires first { place.past_start ≡ false → place.a0 ≡ 0 }
-    requires word { IsWordOf (row_of bitmap.now above) word }
+    requires word { IsWordOf (pixels_of_row bitmap.now above) word }
     requires index { word.index ≡ place.a0 / 64 }
     ensures value { (bits : List ℕ) → ReadStep bitmap.now.width (head_of place)
-        (after_vertical bitmap.now.width (row_of bitmap.now above) (head_of place) distance bits)
+        (after_vertical bitmap.now.width (pixels_of_row bitmap.now above) (head_of place) distance bits)
         result bits }
     ensures lanes { KeepsLanes steps.old steps.new }
-    ensures work { IsNear distance
+    ensures work { IsWithinThree distance
         → MovesWithin (turn_loads bitmap.now.width place.a0 result) steps.old steps.new }
 {
     let width = bitmap.width();
@@ -245,12 +245,12 @@ fn find_b1<A: Allocator, L: Ledger>(
 ) -> u32
     requires column { place.a0 < bitmap.now.width }
     requires first { place.past_start ≡ false → place.a0 ≡ 0 }
-    requires word { IsWordOf (row_of bitmap.now above) word }
+    requires word { IsWordOf (pixels_of_row bitmap.now above) word }
     requires index { word.index ≡ place.a0 / 64 }
-    ensures value { result ≡ b1_of bitmap.now.width (row_of bitmap.now above) (head_of place) }
+    ensures value { result ≡ b1_of bitmap.now.width (pixels_of_row bitmap.now above) (head_of place) }
     ensures within { result ≤ bitmap.now.width }
     ensures forward { place.a0 ≤ result }
-    ensures colour { result < bitmap.now.width → row_of bitmap.now above result ≡ not place.black }
+    ensures colour { result < bitmap.now.width → pixels_of_row bitmap.now above result ≡ not place.black }
     ensures lanes { KeepsLanes steps.old steps.new }
     ensures steps { steps.new
         ≡ words_loaded (words_after bitmap.now.width place.a0 result) steps.old }

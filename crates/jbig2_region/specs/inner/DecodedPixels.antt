@@ -36,8 +36,8 @@ pub record Knows (colour : Bool) (before : CountedDecoder) (n : ℕ) (after : Co
   pub steps : after.counts ≡ before.counts
 
 -- the next pixel: of a known colour, or else decided in the context with number k
-abbrev pub Takes : Option Bool → ℕ → CountedDecoder → ℕ → CountedDecoder → Type 0
-Takes (Some colour) k before n after = Knows colour before n after
-Takes None k before n after =
+abbrev pub TakesPixel : Option Bool → ℕ → CountedDecoder → ℕ → CountedDecoder → Type 0
+TakesPixel (Some colour) k before n after = Knows colour before n after
+TakesPixel None k before n after =
     let context = slice_index_or before.contexts k fresh in
     Decides (decision before.coder.bytes before.coder.registers context) k before n after

@@ -38,9 +38,9 @@ abbrev pub four_of : RefinementWindows → ℕ → ℕ → ℕ
 four_of w left k = left % 2 + three_of w.region k * 2
 
 -- the context that they make
-abbrev pub context_of : RefinementTemplate → ℕ → ℕ → ℕ
-context_of Template0 nine four = nine + four * 512
-context_of Template1 nine four = nine % 4 + nine / 8 % 8 * 4 + nine / 128 % 2 * 32 + four * 64
+abbrev pub context_made : RefinementTemplate → ℕ → ℕ → ℕ
+context_made Template0 nine four = nine + four * 512
+context_made Template1 nine four = nine % 4 + nine / 8 % 8 * 4 + nine / 128 % 2 * 32 + four * 64
 
 -- the common colour of the nine pixels, if they have one
 abbrev pub colour_of : ℕ → Option Bool

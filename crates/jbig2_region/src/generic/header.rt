@@ -6,7 +6,7 @@ ghost use Rattle.jbig2_region.specs.GenericHeader.{rows_at, generic_header_at, I
 ghost use Rattle.jbig2_region.specs.inner.GenericViews.{header_view};
 ghost use Rattle.jbig2_region.specs.inner.PixelArrays.{IsFilled};
 ghost use Rattle.jbig2_base.specs.Causes.{HasCause};
-ghost use Rattle.jbig2_region.specs.Causes.{BreaksGenericHeader, BreaksRows};
+ghost use Rattle.jbig2_region.specs.Causes.{BreaksGenericHeader, BreaksRowCount};
 
 use crate::region_info::{RegionSegmentInfo, parse_region_segment_info};
 use crate::template::adaptive::parse_generic_template_pixels;
@@ -37,7 +37,7 @@ pub struct GenericRegionHeader<'a> {
 fn rows<'a>(unknown_length: bool, height: u32, bytes: &'a [u8]) -> Result<(u32, &'a [u8])>
     ensures value { Returns (λ rows. (rows.0, rows.1.now)) result
         (rows_at unknown_length height bytes.now) }
-    ensures causes { HasCause result (BreaksRows unknown_length height bytes.now) }
+    ensures causes { HasCause result (BreaksRowCount unknown_length height bytes.now) }
 {
     if !unknown_length {
         return Ok((height, bytes));

@@ -2,7 +2,7 @@
 ghost use Rattle.std.specs.Prelude.{◌≡◌, ◌==◌, ℕ, ◌+◌, ◌-◌, ◌*◌, ◌/◌, ◌%◌, ◌^◌, ◌<◌, ◌≤◌, false, true, max, min, nat_lt, length, slice_index_or, if◌then◌else◌};
 ghost use Rattle.jbig2_base.specs.Grid.{Grid, same_colour};
 ghost use Rattle.jbig2_coder.specs.Coder.{fresh};
-ghost use Rattle.jbig2_coder.specs.Table.{row_of};
+ghost use Rattle.jbig2_coder.specs.Table.{qe_row};
 ghost use Rattle.jbig2_region.specs.inner.RegionStates.{HasDecoded, region_state};
 ghost use Rattle.jbig2_region.specs.inner.LongRuns.{is_run_for};
 ghost use Rattle.jbig2_region.specs.inner.Neighbours.{IsLeft, IsNear, ShowsRun, is_field, neighbour_count, neighbours_stay, nominal_pixels, stretch_stays, stretches_stay};
@@ -173,7 +173,7 @@ pub fn take_runs<L: Ledger>(
           registers = record decoder.old.registers {
             a =
                 decoder.old.registers.a - 8 * result *
-                (row_of (slice_index_or contexts.now (all_of (nominal_pixels neighbours) black)
+                (qe_row (slice_index_or contexts.now (all_of (nominal_pixels neighbours) black)
                 fresh).row).qe;
           };
         } }

@@ -14,7 +14,7 @@
 ghost use Rattle.std.specs.Prelude.{◌≡◌, ℕ, ◌+◌, ◌*◌, ◌/◌, ◌%◌, ◌^◌, ◌<◌, ◌≤◌};
 ghost use Rattle.jbig2_region.specs.RefinementTemplates.{refinement_bits};
 ghost use Rattle.jbig2_region.specs.inner.RefinementLanes.{Lanes, nine_in, region_in};
-ghost use Rattle.jbig2_region.specs.inner.RefinementWindows.{context_of};
+ghost use Rattle.jbig2_region.specs.inner.RefinementWindows.{context_made};
 
 use crate::refinement_kernel::windows::RefinementWindows;
 use crate::template::RefinementTemplate;
@@ -97,7 +97,7 @@ fn gathered_1(below: u64, here: u64, above: u64, region: u64) -> u32
 #[inline(always)]
 pub fn lanes_context(template: RefinementTemplate, lanes: u64, left: u32) -> u32
     requires left { left < 2 }
-    ensures value { result ≡ context_of template (nine_in lanes) (left + region_in lanes * 2) }
+    ensures value { result ≡ context_made template (nine_in lanes) (left + region_in lanes * 2) }
     ensures bound { result < 2 ^ refinement_bits template }
 {
     let below = (lanes >> 12) % 8;

@@ -6,7 +6,7 @@ ghost use Rattle.jbig2_base.specs.Counts.{KeepsLanes};
 ghost use Rattle.jbig2_region.specs.Steps.{CountsSkipping, skipping_loads, skipping_words};
 ghost use Rattle.jbig2_region.specs.inner.RegionViews.{skip_of};
 ghost use Rattle.jbig2_region.specs.Generic.{skipping_coding};
-ghost use Rattle.jbig2_region.specs.inner.DecodedPixels.{Takes};
+ghost use Rattle.jbig2_region.specs.inner.DecodedPixels.{TakesPixel};
 ghost use Rattle.jbig2_region.specs.inner.RegionStates.{DecodesRegion, IsReady, counted_decoder, counted_region, region_state};
 ghost use Rattle.jbig2_region.specs.inner.Neighbours.{IsLeft, IsNear, neighbour_count, nominal_pixels};
 ghost use Rattle.jbig2_region.specs.inner.Masks.{IsMask, plain_context};
@@ -63,7 +63,7 @@ fn decode_pixel<L: Ledger>(
     steps: &mut Steps<L>,
 ) -> u32
     requires context { context < length contexts.old }
-    ensures takes { Takes (if skipped then Some false else None) context
+    ensures takes { TakesPixel (if skipped then Some false else None) context
         (counted_decoder decoder.old contexts.old steps.old) result
         (counted_decoder decoder.new contexts.new steps.new) }
     ensures digit { result < 2 }

@@ -31,26 +31,13 @@ pub fn extended_template_0(a: &[AdaptiveTemplatePixel; 12]) -> [AdaptiveTemplate
     ]
 }
 
-/// The context of the decision that begins a row under typical prediction (T.88, 6.2.5.7).
-fn row_context(template: Template) -> u32
-    ensures value { result ≡ row_context template }
-    ensures small { result < 2 ^ context_bits template }
-{
-    match template {
-        Template::Template0 => 0x9B25,
-        Template::Template1 => 0x0795,
-        Template::Template2 => 0x00E5,
-        Template::Template3 => 0x0195,
-    }
-}
-
-/// That context with typical prediction, else None.
+/// The context of the decision that begins a row with typical prediction, else None.
 pub fn typical_context(template: Template, typical: bool) -> Option<u32>
     ensures value { result ≡ (if typical then Some (row_context template) else None) }
     ensures small { IfSome result (λ k. k < 2 ^ context_bits template) }
 {
     if typical {
-        return Some(row_context(template));
+        return Some(u32::from(template.row_context()));
     }
     None
 }

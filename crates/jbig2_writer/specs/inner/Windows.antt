@@ -4,27 +4,12 @@ use Rattle.jbig2_base.specs.Grid.{Grid}
 use Rattle.jbig2_coder.specs.Encoder.{CodingInContexts, HasCoded}
 use Rattle.jbig2_region.specs.inner.Neighbours.{IsWindow, side_by_side}
 use Rattle.jbig2_region.specs.declared.template.AdaptiveTemplatePixel.{AdaptiveTemplatePixel}
-use Rattle.jbig2_region.specs.declared.template.Template.{Template}
-use Rattle.jbig2_region.specs.declared.template.Template.TheVariants.{Template0, Template1, Template2, Template3}
+use Rattle.jbig2_region.specs.declared.template.neighbours.Neighbours.{Neighbours}
 use Rattle.jbig2_inverses.specs.CoderStates.{Entry}
-use Rattle.jbig2_writer.specs.declared.neighbours.Neighbours.{Neighbours}
 use Rattle.jbig2_writer.specs.declared.windows.Windows.{Windows}
 use Rattle.jbig2_writer.specs.inner.Rows.{decisions_of_pixels}
 
-abbrev pub around : ℕ → ℕ → ℕ → ℕ → ℕ → Neighbours
-around left above_reach above_count top_reach top_count = record {
-  left = left;
-  above = record { reach = above_reach; count = above_count };
-  top = record { reach = top_reach; count = top_count };
-}
-
-abbrev pub neighbours_of : Template → Neighbours  -- the pixels of a template with nominal adaptive pixels
-neighbours_of Template0 = around 4 3 7 2 5
-neighbours_of Template1 = around 3 3 6 2 4
-neighbours_of Template2 = around 2 2 5 1 3
-neighbours_of Template3 = around 4 2 6 0 0
-
--- the same as a list of places, bit 0 of a context first
+-- as a list of places, bit 0 of a context first
 abbrev pub neighbour_pixels : Neighbours → List AdaptiveTemplatePixel
 neighbour_pixels n =
     side_by_side (negsuc 0) 0 n.left ++ (side_by_side (pos n.above.reach) 1 n.above.count ++ side_by_side (pos n.top.reach) 2 n.top.count)

@@ -3,10 +3,10 @@ use Rattle.jbig2_base.specs.Counts.{Counts}
 use Rattle.jbig2_base.specs.Grid.{Grid, pixel_at}
 use Rattle.jbig2_base.specs.Bits.{bit}
 use Rattle.jbig2_region.specs.inner.Stretches.{rest_of}
-use Rattle.jbig2_region.specs.inner.DecodedPixels.{CountsPart, Takes}
+use Rattle.jbig2_region.specs.inner.DecodedPixels.{CountsPart, TakesPixel}
 use Rattle.jbig2_region.specs.inner.RefinementBlocks.{Block}
 use Rattle.jbig2_region.specs.inner.RefinementViews.{reference_view}
-use Rattle.jbig2_region.specs.inner.RefinementWindows.{context_of, known_of, nine_of, three_of, windowed_coding}
+use Rattle.jbig2_region.specs.inner.RefinementWindows.{context_made, known_of, nine_of, three_of, windowed_coding}
 use Rattle.jbig2_region.proofs.RefinementKernelLemmas.{block-next, block-none, block-whole}
 use Rattle.jbig2_region.proofs.RefinementKnownLemmas.{copied-known, decided-unknown}
 use Rattle.jbig2_region.proofs.RefinementPushLemmas.{block-copied, context-white, four-white}
@@ -34,8 +34,8 @@ loop-done-preserved g c =
           (block-next c.args.coding.now.template c.args.coding.now.typical c.args.row.predicted (reference_view c.args.coding.now.reference.now) c.args.stretch.x c.args.row.y c.loop-done.done c.args.bitmap.now c.args.stretch.windows
           c.args.decoder.now c.loop-done.decoder c.decide_pixel-symbol.new.decoder c.args.contexts.now c.loop-done.contexts c.decide_pixel-symbol.new.contexts c.args.steps.now c.loop-done.steps c.decide_pixel-symbol.new.steps
           c.loop-done.pixels 0 0 c.decide_pixel-symbol.result
-          c.loop-done.invariant.block c.requires.sees (omega arith) (omega arith) c.requires.row (sym (c.looked_for-white.ensures.nine (omega arith) c.loop-done.done (omega arith))) (four-white c.args.stretch.windows c.loop-done.pixels c.loop-done.done left region) (subst (λ (q : Bool). Takes (known_of q 0) (context_of c.args.coding.now.template 0 0) (counted_decoder c.loop-done.decoder c.loop-done.contexts c.loop-done.steps) c.decide_pixel-symbol.result (counted_decoder c.decide_pixel-symbol.new.decoder c.decide_pixel-symbol.new.contexts c.decide_pixel-symbol.new.steps)) (sym plain)
-          (subst (λ (n : ℕ). Takes None n (counted_decoder c.loop-done.decoder c.loop-done.contexts c.loop-done.steps) c.decide_pixel-symbol.result (counted_decoder c.decide_pixel-symbol.new.decoder c.decide_pixel-symbol.new.contexts c.decide_pixel-symbol.new.steps)) (sym (context-white c.args.coding.now.template)) c.decide_pixel-symbol.ensures.takes)));
+          c.loop-done.invariant.block c.requires.sees (omega arith) (omega arith) c.requires.row (sym (c.looked_for-white.ensures.nine (omega arith) c.loop-done.done (omega arith))) (four-white c.args.stretch.windows c.loop-done.pixels c.loop-done.done left region) (subst (λ (q : Bool). TakesPixel (known_of q 0) (context_made c.args.coding.now.template 0 0) (counted_decoder c.loop-done.decoder c.loop-done.contexts c.loop-done.steps) c.decide_pixel-symbol.result (counted_decoder c.decide_pixel-symbol.new.decoder c.decide_pixel-symbol.new.contexts c.decide_pixel-symbol.new.steps)) (sym plain)
+          (subst (λ (n : ℕ). TakesPixel None n (counted_decoder c.loop-done.decoder c.loop-done.contexts c.loop-done.steps) c.decide_pixel-symbol.result (counted_decoder c.decide_pixel-symbol.new.decoder c.decide_pixel-symbol.new.contexts c.decide_pixel-symbol.new.steps)) (sym (context-white c.args.coding.now.template)) c.decide_pixel-symbol.ensures.takes)));
     }
 
 pub push_pixels-pixels-requires-clause-room : goal.push_pixels-pixels-requires-clause-room

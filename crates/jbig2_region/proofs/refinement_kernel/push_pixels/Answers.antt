@@ -2,7 +2,7 @@ use Rattle.std.proofs.Common.{arith, ℕ, ◌≡◌, ◌+◌, ◌-◌, ◌*◌, 
 use Rattle.jbig2_region.specs.Refinement.{refinement_coding}
 use Rattle.jbig2_region.specs.inner.RefinementBlocks.{Block, MovesBlock}
 use Rattle.jbig2_region.specs.inner.RefinementLanes.{Lanes}
-use Rattle.jbig2_region.specs.inner.RefinementWindows.{context_of, corners, four_of, nine_of}
+use Rattle.jbig2_region.specs.inner.RefinementWindows.{context_made, corners, four_of, nine_of}
 use Rattle.jbig2_region.proofs.RefinementLaneLemmas.{lanes-next}
 use Rattle.jbig2_region.proofs.RefinementPushLemmas.{block-opening, block-pushed, context-shown, pixels-more}
 use Rattle.jbig2_region.proofs.refinement_kernel.push_pixels.Goals as goal
@@ -19,7 +19,7 @@ loop-init g c = record {
       subst (λ (n : ℕ). Lanes c.args.windows n 12 c.lanes_at-lanes.result) same c.lanes_at-lanes.ensures;
   context = λ more.
       let same : c.args.offset ≡ c.args.offset + 0 = omega arith in
-      subst (λ (n : ℕ). c.lanes_context-context.result ≡ context_of c.args.template (nine_of c.args.windows n) (four_of c.args.windows c.args.pixels n)) same
+      subst (λ (n : ℕ). c.lanes_context-context.result ≡ context_made c.args.template (nine_of c.args.windows n) (four_of c.args.windows c.args.pixels n)) same
       (context-shown c.args.template c.args.windows c.args.offset 12 c.lanes_at-lanes.result _ c.args.pixels c.lanes_context-context.result (omega (arith, more)) c.lanes_at-lanes.ensures c.lanes_context-context.ensures.value (omega arith));
 }
 

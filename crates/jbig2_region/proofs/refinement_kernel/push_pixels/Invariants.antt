@@ -1,7 +1,7 @@
 use Rattle.std.proofs.Common.{◌≡◌, ◌+◌, ◌-◌, ◌*◌, ◌^◌, ◌<◌}
 use Rattle.jbig2_region.specs.inner.RefinementBlocks.{MovesBlock}
 use Rattle.jbig2_region.specs.inner.RefinementLanes.{Lanes}
-use Rattle.jbig2_region.specs.inner.RefinementWindows.{context_of, four_of, nine_of}
+use Rattle.jbig2_region.specs.inner.RefinementWindows.{context_made, four_of, nine_of}
 use Rattle.jbig2_region.specs.RefinementTemplates.{refinement_bits}
 use Rattle.jbig2_region.proofs.refinement_kernel.push_pixels.Given as goal
 use Rattle.jbig2_region.specs.inner.RegionStates.{counted_decoder}
@@ -12,5 +12,5 @@ invariant-loop g l = record {
   room : l.pixels < 16 * 2 ^ (l.fn.offset + l.counter);
   bound : l.context < 2 ^ refinement_bits l.fn.template;
   lanes : l.counter < l.fn.count → Lanes l.fn.windows (l.fn.offset + l.counter) (12 - l.counter) l.lanes;
-  context : l.counter < l.fn.count → l.context ≡ context_of l.fn.template (nine_of l.fn.windows (l.fn.offset + l.counter)) (four_of l.fn.windows l.pixels (l.fn.offset + l.counter));
+  context : l.counter < l.fn.count → l.context ≡ context_made l.fn.template (nine_of l.fn.windows (l.fn.offset + l.counter)) (four_of l.fn.windows l.pixels (l.fn.offset + l.counter));
 }

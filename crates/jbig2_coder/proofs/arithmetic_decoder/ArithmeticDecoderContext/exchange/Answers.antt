@@ -2,7 +2,7 @@ use Rattle.std.proofs.Common.{◌≡◌, ℕ, ◌%◌, ◌<◌, ◌≤◌, Bool,
 use Rattle.std.specs.Bool.{beq}
 use Rattle.std.proofs.lemmas.Bool.{cond-true, cond-false}
 use Rattle.jbig2_coder.specs.Coder.{Context, likely_next, unlikely_next}
-use Rattle.jbig2_coder.specs.inner.States.{context_of}
+use Rattle.jbig2_coder.specs.inner.States.{context_in_state}
 use Rattle.jbig2_coder.proofs.Choices.{choice-part}
 use Rattle.jbig2_coder.proofs.arithmetic_decoder.ArithmeticDecoderContext.exchange.Goals as goal
 use Rattle.jbig2_coder.proofs.arithmetic_decoder.ArithmeticDecoderContext.exchange.Goals.{then-is_lower, else-is_lower, then-is_lower-2, else-is_lower-2, then-is_unlikely, else-is_unlikely}
@@ -41,10 +41,10 @@ returns-clause-choice c = λ code small at.
       | then-is_lower w ↦ λ lower. w.below-is
       | else-is_lower w ↦ λ lower. absurd (omega (arith, lower, w.if-is_lower.false))
     ] in
-    let next : context_of c.if-is_unlikely.self ≡ cond unlikely (unlikely_next x) (likely_next x) = elim c.if-is_unlikely.branch [
-      | then-is_unlikely w ↦ ap (λ (k : ℕ). context_of k) w.self-is ∙ c.requires.does.unlikely ∙ sym (cond-true unlikely (unlikely_next x) (likely_next x) w.if-is_unlikely.true)
-      | else-is_unlikely w ↦ ap (λ (k : ℕ). context_of k) w.self-is ∙ c.requires.does.likely ∙ sym (cond-false unlikely (unlikely_next x) (likely_next x) w.if-is_unlikely.false)
+    let next : context_in_state c.if-is_unlikely.self ≡ cond unlikely (unlikely_next x) (likely_next x) = elim c.if-is_unlikely.branch [
+      | then-is_unlikely w ↦ ap (λ (k : ℕ). context_in_state k) w.self-is ∙ c.requires.does.unlikely ∙ sym (cond-true unlikely (unlikely_next x) (likely_next x) w.if-is_unlikely.true)
+      | else-is_unlikely w ↦ ap (λ (k : ℕ). context_in_state k) w.self-is ∙ c.requires.does.likely ∙ sym (cond-false unlikely (unlikely_next x) (likely_next x) w.if-is_unlikely.false)
     ] in
     let symbol : not (beq (eqb (c.args.state.likely % 2) 1) unlikely) ≡ cond unlikely (not x.likely) x.likely =
     symbol-read _ unlikely ∙ ap (λ (likely : Bool). cond unlikely (not likely) likely) (ap (λ (q : Context). q.likely) c.requires.does.likely ∙ likely-kept x) in
-    choice-part x (context_of c.if-is_unlikely.self) rest qe high c.if-is_lower-2.size c.if-is_lower.below code _ (sym c.requires.does.qe) small at c.requires.below c.requires.renorm upper_size lower_size upper_below lower_below next symbol
+    choice-part x (context_in_state c.if-is_unlikely.self) rest qe high c.if-is_lower-2.size c.if-is_lower.below code _ (sym c.requires.does.qe) small at c.requires.below c.requires.renorm upper_size lower_size upper_below lower_below next symbol

@@ -2,7 +2,7 @@ use Rattle.std.proofs.Common.{Ok, Err, List, ap, sym, subst, ◌∙◌}
 use Rattle.std.proofs.lemmas.Result.{err_from_is_err_and}
 use Rattle.jbig2_coder.specs.declared.huffman_table.line.TableLine.{TableLine}
 use Rattle.jbig2_coder.specs.PrefixCode.{Member, table_of}
-use Rattle.jbig2_coder.specs.CustomTable.{GivesAt, Step, custom_lines, custom_table, left_at}
+use Rattle.jbig2_coder.specs.CustomTable.{GivesAt, TableStep, custom_lines, custom_table, left_at}
 use Rattle.jbig2_coder.proofs.CustomCauses.{custom_cause}
 use Rattle.jbig2_coder.proofs.CustomReading.{gives-at, gives-refusal, table-lines}
 use Rattle.jbig2_coder.proofs.huffman_table.HuffmanTable.read_custom.Goals as goal
@@ -21,7 +21,7 @@ returns-clause-table g c =
     let q = c.read_lines.new.reader in
     let xs = c.in_ok-lines.lines.items in
     let whole = table-lines p (Ok (xs, q)) c.in_ok-lines.ensures.lines in
-    let P : Step (List Member) → Type 0 = λ s. GivesAt (λ (t : List Member). t) c.build.result q s in
+    let P : TableStep (List Member) → Type 0 = λ s. GivesAt (λ (t : List Member). t) c.build.result q s in
     subst P (ap (λ (ys : List TableLine). left_at q (table_of ys)) c.deref.ensures.value ∙ sym whole)
     (gives-at (λ (t : List Member). t) c.build.result q (table_of c.deref.result.now) c.build.ensures.table)
 

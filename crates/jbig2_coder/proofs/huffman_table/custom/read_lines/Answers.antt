@@ -1,6 +1,6 @@
 use Rattle.std.proofs.Common.{◌≡◌, Ok, Err, List, inr, ◌∙◌}
 use Rattle.std.proofs.lemmas.Result.{err_from_is_err_and}
-use Rattle.jbig2_coder.specs.CustomTable.{Step, concat, custom_lines, end_lines, range_lines}
+use Rattle.jbig2_coder.specs.CustomTable.{TableStep, concat, custom_lines, end_lines, range_lines}
 use Rattle.jbig2_coder.specs.declared.huffman_table.line.TableLine.{TableLine}
 use Rattle.jbig2_coder.proofs.CustomReading.{gives-refusal, lines-header, lines-ranges}
 use Rattle.jbig2_coder.proofs.huffman_table.custom.read_lines.Goals as goal
@@ -35,7 +35,7 @@ returns-in_err-push_end_lines g c =
     let r = c.read_range_lines.new.reader in
     let h = c.in_ok-header.header in
     let xs = c.in_ok-lines.lines.items in
-    let ends : Step (List TableLine) = concat xs (end_lines h r) in
+    let ends : TableStep (List TableLine) = concat xs (end_lines h r) in
     let whole : custom_lines p ≡ ends = lines-ranges p q h (Ok (xs, r)) c.in_ok-header.ensures.header c.in_ok-lines.ensures.lines in
     record {
       lines = rw (e.1, e.2) (gives-refusal d c.push_end_lines.new.reader ends (custom_lines p) (λ is. whole ∙ is) c.in_err-push_end_lines.ensures.lines);

@@ -1,6 +1,6 @@
-use Rattle.std.proofs.Common.{ℕ, ◌-◌, ◌≤◌, ◌∙◌, sym, ap, subst, arith}
+use Rattle.std.proofs.Common.{◌≡◌, ℕ, ◌-◌, ◌≤◌, ◌∙◌, sym, ap, subst, arith}
 use Rattle.std.specs.Int.Count.{count_leading_zeros}
-use Rattle.jbig2_coder.specs.inner.EncoderViews.{coding_of, writer_of}
+use Rattle.jbig2_coder.specs.inner.EncoderViews.{encoder_state, writer_of}
 use Rattle.jbig2_coder.specs.declared.mq.encoder.Registers.{Registers}
 use Rattle.jbig2_coder.proofs.Encoders.{renormed-batch}
 use Rattle.jbig2_coder.proofs.Renorm.{leading-full, leading-half, leading-room}
@@ -16,7 +16,7 @@ pub returns-then-shifts-registers-clause-value : goal.returns-then-shifts-regist
 returns-then-shifts-registers-clause-value g c =
     let k : ℕ = count_leading_zeros 32 c.args.registers.a - 16 in
     let half = leading-half c.args.registers.a c.requires.some c.requires.half in
-    ap (λ (r : Registers). coding_of c.args.bytes.now.items r) c.shifted.ensures.value
+    ap (λ (r : Registers). encoder_state c.args.bytes.now.items r) c.shifted.ensures.value
     ∙ sym (renormed-batch k 15 c.args.registers.a (writer_of c.args.bytes.now.items c.args.registers.code) (omega (arith, half)) c.if-shifts-registers.true
     (leading-room c.args.registers.a k c.requires.some c.requires.half (omega arith)) (leading-full c.args.registers.a c.requires.some c.requires.half))
 

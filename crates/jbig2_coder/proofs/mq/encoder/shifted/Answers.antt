@@ -1,5 +1,5 @@
-use Rattle.std.proofs.Common.{◌≡◌, ◌*◌, ◌%◌, ◌-◌, ◌^◌, sym, subst, arith}
-use Rattle.jbig2_coder.specs.inner.EncoderViews.{HasRoom}
+use Rattle.std.proofs.Common.{◌≡◌, ℕ, ◌*◌, ◌%◌, ◌-◌, ◌^◌, sym, subst, arith}
+use Rattle.jbig2_coder.specs.inner.EncoderViews.{shifted_registers, HasRoom}
 use Rattle.jbig2_coder.specs.declared.mq.encoder.Registers.{Registers}
 use Rattle.jbig2_coder.proofs.Encoders.{shifted-fits, shifted-room}
 use Rattle.jbig2_coder.proofs.mq.encoder.shifted.Goals as goal

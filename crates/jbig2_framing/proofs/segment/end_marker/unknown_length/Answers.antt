@@ -18,7 +18,7 @@ returns-in_err-place-clause-value c =
 
 pub returns-clause-value : goal.returns-clause-value
 returns-clause-value c =
-    unknown_marked c.args.bytes.now _ _ _ _ _ _ (ap (λ (p : Place). p.bytes) c.new-reader.ensures) c.in_ok-flags.ensures.value c.tail.ensures c.in_ok-place.ensures.value c.adaptive_bytes.ensures
+    unknown_marked c.args.bytes.now _ _ _ _ _ _ (ap (λ (p : Place). p.bytes) c.new-reader.ensures) c.in_ok-flags.ensures.value c.tail.ensures c.in_ok-place.ensures.value c.adaptive_byte_count.ensures
 
 pub returns-in_err-flags-clause-causes : goal.returns-in_err-flags-clause-causes
 returns-in_err-flags-clause-causes c = unknown_cause c.args.bytes.now _ (err-answers (λ (n : ℕ). n) _ (unknown_length_of c.args.bytes.now) (returns-in_err-flags-clause-value c))

@@ -3,7 +3,7 @@ use Rattle.jbig2_steps.specs.Work.{price_of_bitmap}
 use Rattle.jbig2_region.specs.Raster.{no_pixels}
 use Rattle.jbig2_region.specs.inner.PixelArrays.{four_pixels}
 use Rattle.jbig2_halftone.specs.GrayScale.{GrayScale}
-use Rattle.jbig2_halftone.specs.inner.FunctionResults.{coded_rows}
+use Rattle.jbig2_halftone.specs.inner.FunctionResults.{whole_coded_rows}
 use Rattle.jbig2_halftone.specs.inner.HalftoneViews.{gray_view}
 use Rattle.jbig2_region.proofs.GenericPrices.{whole-rows-paid}
 use Rattle.jbig2_halftone.proofs.PatternLemmas.{blank-made}
@@ -43,7 +43,7 @@ returns-clause-value g c =
     let white = blank-made p.width p.height false c.in_ok-last.last c.requires.columns c.requires.rows c.in_ok-last.ensures.value in
     let last : c.loop.counter ≡ p.bits_per_pixel - 1 = omega arith in
     let counted = last-counted p (four_pixels p.template c.nominal_pixels.result) c.args.bytes.now c.loop.counter c.in_ok-last.last c.loop.decoder c.loop.contexts c.count_regular_rows-rows.result white c.loop.invariant.after c.nominal_pixels.ensures.used c.count_regular_rows-rows.ensures.rows in
-    ap (λ (n : ℕ). Ok n) (sym (counted ∙ ap (λ (i : ℕ). coded_rows p c.args.bytes.now i) last))
+    ap (λ (n : ℕ). Ok n) (sym (counted ∙ ap (λ (i : ℕ). whole_coded_rows p c.args.bytes.now i) last))
 
 pub returns-clause-paid : goal.returns-clause-paid
 returns-clause-paid g c =

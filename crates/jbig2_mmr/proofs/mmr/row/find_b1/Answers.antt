@@ -11,7 +11,7 @@ use Rattle.jbig2_base.proofs.CountLemmas.{loaded-as, loaded-none}
 use Rattle.jbig2_base.proofs.LaneCounts.{lanes-none}
 use Rattle.jbig2_mmr.specs.declared.mmr.change.RowWord.{RowWord}
 use Rattle.jbig2_mmr.specs.T6.{b1_of, is_change_from, left_of}
-use Rattle.jbig2_mmr.specs.inner.T6Reading.{row_of}
+use Rattle.jbig2_mmr.specs.inner.T6Reading.{pixels_of_row}
 use Rattle.jbig2_mmr.specs.inner.T6Calls.{IsWordOf}
 use Rattle.jbig2_mmr.proofs.T6Changes.{IsChanges, changes-right, changes-none, changes-within, changes-later, last-left, leading-within, place-turned}
 use Rattle.jbig2_mmr.proofs.T6Steps.{same-word, later-word}
@@ -44,7 +44,7 @@ in-word row black past_start a0 w changes right is index first small_changes sma
 pub returns-then-changes-ne0 : goal.returns-then-changes-ne0
 unfolding b1_of
 returns-then-changes-ne0 g c =
-    let row : ℕ → Bool = row_of c.args.bitmap.now c.args.above in
+    let row : ℕ → Bool = pixels_of_row c.args.bitmap.now c.args.above in
     let black : Bool = c.args.place.black in
     let from : ℕ = start c.args.place.past_start c.args.place.a0 in
     let w : ℕ = c.args.bitmap.now.width in
@@ -67,12 +67,12 @@ returns-then-changes-ne0 g c =
 pub find_change-requires : goal.find_change-requires
 find_change-requires g c =
     let next : 64 * c.args.word.index + 64 ≡ 64 * (c.args.word.index + 1) = omega arith in
-    last-left (row_of c.args.bitmap.now c.args.above) (64 * c.args.word.index) c.args.word.pixels c.requires.word.pixels ∙ ap (λ (x : ℕ). left_of (row_of c.args.bitmap.now c.args.above) x) next
+    last-left (pixels_of_row c.args.bitmap.now c.args.above) (64 * c.args.word.index) c.args.word.pixels c.requires.word.pixels ∙ ap (λ (x : ℕ). left_of (pixels_of_row c.args.bitmap.now c.args.above) x) next
 
 pub returns : goal.returns
 unfolding b1_of
 returns g c =
-    let row : ℕ → Bool = row_of c.args.bitmap.now c.args.above in
+    let row : ℕ → Bool = pixels_of_row c.args.bitmap.now c.args.above in
     let black : Bool = c.args.place.black in
     let x : ℕ = 64 * c.args.word.index in
     let from : ℕ = start c.args.place.past_start c.args.place.a0 in

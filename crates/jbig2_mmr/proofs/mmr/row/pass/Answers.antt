@@ -2,7 +2,7 @@ use Rattle.std.proofs.Common.{◌≡◌, ℕ, ◌+◌, ◌≤◌, Bool, ap, sym,
 use Rattle.jbig2_base.proofs.LaneCounts.{lanes-then}
 use Rattle.jbig2_mmr.specs.declared.mmr.row.Turn.{Turn}
 use Rattle.jbig2_mmr.specs.T6.{b1_of}
-use Rattle.jbig2_mmr.specs.inner.T6Reading.{row_of}
+use Rattle.jbig2_mmr.specs.inner.T6Reading.{pixels_of_row}
 use Rattle.jbig2_mmr.specs.inner.T6Calls.{head_of}
 use Rattle.jbig2_mmr.specs.inner.T6Steps.{words_after}
 use Rattle.jbig2_mmr.proofs.T6Changes.{first-colour, first-end}
@@ -13,7 +13,7 @@ use Rattle.jbig2_mmr.proofs.mmr.row.pass.Goals as goal
 pub returns-then-b1-width-clause-value : goal.returns-then-b1-width-clause-value
 returns-then-b1-width-clause-value g c = λ bits.
     let w : ℕ = c.args.bitmap.now.width in
-    let row : ℕ → Bool = row_of c.args.bitmap.now c.args.above in
+    let row : ℕ → Bool = pixels_of_row c.args.bitmap.now c.args.above in
     pass-read w row (head_of c.args.place) c.find_b1-b1.result c.find_b1-b1.result c.pass_turn.result bits c.find_b1-b1.ensures.value c.find_b1-b1.ensures.within c.find_b1-b1.ensures.colour c.find_b1-b1.ensures.forward
     (first-end row c.args.place.black w c.find_b1-b1.result c.find_b1-b1.ensures.within (omega (arith, c.if-b1-width.true, c.width.ensures.value)))
     (ap (λ (t : Turn). t.turn) c.pass_turn.ensures) (ap (λ (t : Turn). head_of t.next) c.pass_turn.ensures)
@@ -25,7 +25,7 @@ pub returns-clause-value : goal.returns-clause-value
 unfolding b1_of
 returns-clause-value g c = λ bits.
     let w : ℕ = c.args.bitmap.now.width in
-    let row : ℕ → Bool = row_of c.args.bitmap.now c.args.above in
+    let row : ℕ → Bool = pixels_of_row c.args.bitmap.now c.args.above in
     pass-read w row (head_of c.args.place) c.find_b1-b1.result c.find_b1.result c.pass_turn-2.result bits c.find_b1-b1.ensures.value c.find_b1-b1.ensures.within c.find_b1-b1.ensures.colour c.find_b1-b1.ensures.forward
     (first-colour row c.args.place.black c.find_b1-b1.result w c.find_b1.result (omega (arith, c.if-b1-width.false, c.width.ensures.value)) (c.find_b1-b1.ensures.colour (omega (arith, c.if-b1-width.false, c.width.ensures.value))) c.find_b1.ensures.value)
     (ap (λ (t : Turn). t.turn) c.pass_turn-2.ensures) (ap (λ (t : Turn). head_of t.next) c.pass_turn-2.ensures)

@@ -2,7 +2,7 @@ use Rattle.std.proofs.Common.{ℕ, ◌+◌, ◌-◌, Bool, not, false, length, r
 use Rattle.std.proofs.lemmas.Bool.{true≢false}
 use Rattle.jbig2_base.proofs.LaneCounts.{lanes-then}
 use Rattle.jbig2_mmr.specs.T6.{row}
-use Rattle.jbig2_mmr.specs.inner.T6Reading.{row_of, row_above, IsSpan}
+use Rattle.jbig2_mmr.specs.inner.T6Reading.{pixels_of_row, row_above, IsSpan}
 use Rattle.jbig2_mmr.specs.inner.T6Calls.{head_of, IsWordOf}
 use Rattle.jbig2_mmr.proofs.T6Rows.{RowReading, row-start, row-next, row-done, row-fault, above-same, span-white, turn-within}
 use Rattle.jbig2_mmr.specs.inner.T6Steps.{words_after, span_words}
@@ -31,10 +31,10 @@ pub loop-place-preserved-then-place : goal.loop-place-preserved-then-place
 loop-place-preserved-then-place g c =
     let inv = c.loop-place.invariant in
     let same = above-same c.args.bitmap.now c.loop-place.bitmap c.args.y c.reference_row-above.result inv.reading.other c.reference_row-above.ensures.apart c.reference_row-above.ensures.value in
-    let within = turn-within c.loop-place.bitmap.width (row_of c.loop-place.bitmap c.reference_row-above.result) (head_of c.loop-place.place) c.loop-place.reader.left c.in-Some.turn c.read_turn.new.reader.left c.in-Some.ensures.value in
+    let within = turn-within c.loop-place.bitmap.width (pixels_of_row c.loop-place.bitmap c.reference_row-above.result) (head_of c.loop-place.place) c.loop-place.reader.left c.in-Some.turn c.read_turn.new.reader.left c.in-Some.ensures.value in
     let first = subst (λ (b : Bool). IsSpan c.loop-place.bitmap c.fill_span.new.bitmap c.args.y c.loop-place.place.a0 c.in-Some.turn.turn b) (sym c.if-place.true) c.fill_span.ensures.value in
     let second = span-white c.fill_span.new.bitmap c.args.y c.in-Some.turn.turn c.in-Some.turn.next.a0 (not c.loop-place.place.black) first.table (λ x a. first.right x a ∙ inv.reading.white x (omega (arith, within.0))) (ap (λ (b : Bool). not b) c.if-place.true) in
-    let next = row-next c.args.bitmap.now c.loop-place.bitmap c.fill_span.new.bitmap c.fill_span.new.bitmap c.args.y (row_of c.loop-place.bitmap c.reference_row-above.result) (head_of c.loop-place.place) c.loop-place.reader.left c.read_turn.new.reader.left (row c.args.bitmap.now.width (row_above c.args.bitmap.now c.args.y) c.args.reader.now.left) c.in-Some.turn inv.reading (omega (arith, c.loop-place-test.true, c.width-width.ensures.value)) c.in-Some.ensures.shorter same c.in-Some.ensures.value first second in
+    let next = row-next c.args.bitmap.now c.loop-place.bitmap c.fill_span.new.bitmap c.fill_span.new.bitmap c.args.y (pixels_of_row c.loop-place.bitmap c.reference_row-above.result) (head_of c.loop-place.place) c.loop-place.reader.left c.read_turn.new.reader.left (row c.args.bitmap.now.width (row_above c.args.bitmap.now c.args.y) c.args.reader.now.left) c.in-Some.turn inv.reading (omega (arith, c.loop-place-test.true, c.width-width.ensures.value)) c.in-Some.ensures.shorter same c.in-Some.ensures.value first second in
     record {
       reading = subst (λ (b : Bool). RowReading c.args.bitmap.now c.fill_span.new.bitmap c.args.y (record { a0 = c.in-Some.turn.next.a0; past_start = b; black = c.in-Some.turn.next.black }) c.read_turn.new.reader.left (row c.args.bitmap.now.width (row_above c.args.bitmap.now c.args.y) c.args.reader.now.left)) within.3 next;
       word = subst (λ (row : ℕ → Bool). IsWordOf row c.at-word.result) same c.at-word.ensures.value;
@@ -51,10 +51,10 @@ pub loop-place-preserved : goal.loop-place-preserved
 loop-place-preserved g c =
     let inv = c.loop-place.invariant in
     let same = above-same c.args.bitmap.now c.loop-place.bitmap c.args.y c.reference_row-above.result inv.reading.other c.reference_row-above.ensures.apart c.reference_row-above.ensures.value in
-    let within = turn-within c.loop-place.bitmap.width (row_of c.loop-place.bitmap c.reference_row-above.result) (head_of c.loop-place.place) c.loop-place.reader.left c.in-Some.turn c.read_turn.new.reader.left c.in-Some.ensures.value in
+    let within = turn-within c.loop-place.bitmap.width (pixels_of_row c.loop-place.bitmap c.reference_row-above.result) (head_of c.loop-place.place) c.loop-place.reader.left c.in-Some.turn c.read_turn.new.reader.left c.in-Some.ensures.value in
     let first = span-white c.loop-place.bitmap c.args.y c.loop-place.place.a0 c.in-Some.turn.turn c.loop-place.place.black inv.reading.table inv.reading.white c.if-place.false in
     let second = subst (λ (b : Bool). IsSpan c.loop-place.bitmap c.fill_span-else-place.new.bitmap c.args.y c.in-Some.turn.turn c.in-Some.turn.next.a0 b) (sym (ap (λ (b : Bool). not b) c.if-place.false)) c.fill_span-else-place.ensures.value in
-    let next = row-next c.args.bitmap.now c.loop-place.bitmap c.loop-place.bitmap c.fill_span-else-place.new.bitmap c.args.y (row_of c.loop-place.bitmap c.reference_row-above.result) (head_of c.loop-place.place) c.loop-place.reader.left c.read_turn.new.reader.left (row c.args.bitmap.now.width (row_above c.args.bitmap.now c.args.y) c.args.reader.now.left) c.in-Some.turn inv.reading (omega (arith, c.loop-place-test.true, c.width-width.ensures.value)) c.in-Some.ensures.shorter same c.in-Some.ensures.value first second in
+    let next = row-next c.args.bitmap.now c.loop-place.bitmap c.loop-place.bitmap c.fill_span-else-place.new.bitmap c.args.y (pixels_of_row c.loop-place.bitmap c.reference_row-above.result) (head_of c.loop-place.place) c.loop-place.reader.left c.read_turn.new.reader.left (row c.args.bitmap.now.width (row_above c.args.bitmap.now c.args.y) c.args.reader.now.left) c.in-Some.turn inv.reading (omega (arith, c.loop-place-test.true, c.width-width.ensures.value)) c.in-Some.ensures.shorter same c.in-Some.ensures.value first second in
     record {
       reading = subst (λ (b : Bool). RowReading c.args.bitmap.now c.fill_span-else-place.new.bitmap c.args.y (record { a0 = c.in-Some.turn.next.a0; past_start = b; black = c.in-Some.turn.next.black }) c.read_turn.new.reader.left (row c.args.bitmap.now.width (row_above c.args.bitmap.now c.args.y) c.args.reader.now.left)) within.3 next;
       word = subst (λ (row : ℕ → Bool). IsWordOf row c.at-word.result) same c.at-word.ensures.value;
@@ -71,7 +71,7 @@ pub returns-in-None-clause-value : goal.returns-in-None-clause-value
 returns-in-None-clause-value g c =
     let inv = c.loop-place.invariant in
     let same = above-same c.args.bitmap.now c.loop-place.bitmap c.args.y c.reference_row-above.result inv.reading.other c.reference_row-above.ensures.apart c.reference_row-above.ensures.value in
-    row-fault c.args.bitmap.now c.loop-place.bitmap c.fill_span-in-None.new.bitmap c.args.y (row_of c.loop-place.bitmap c.reference_row-above.result) (head_of c.loop-place.place) c.loop-place.reader.left c.read_turn.new.reader.left (row c.args.bitmap.now.width (row_above c.args.bitmap.now c.args.y) c.args.reader.now.left) inv.reading (omega (arith, c.loop-place-test.true, c.width-width.ensures.value)) same c.in-None.ensures.value
+    row-fault c.args.bitmap.now c.loop-place.bitmap c.fill_span-in-None.new.bitmap c.args.y (pixels_of_row c.loop-place.bitmap c.reference_row-above.result) (head_of c.loop-place.place) c.loop-place.reader.left c.read_turn.new.reader.left (row c.args.bitmap.now.width (row_above c.args.bitmap.now c.args.y) c.args.reader.now.left) inv.reading (omega (arith, c.loop-place-test.true, c.width-width.ensures.value)) same c.in-None.ensures.value
     (subst (λ (w : ℕ). IsSpan c.loop-place.bitmap c.fill_span-in-None.new.bitmap c.args.y 0 w false) c.width-width.ensures.value c.fill_span-in-None.ensures.value)
 
 pub returns-clause-value : goal.returns-clause-value

@@ -2,7 +2,7 @@ use Rattle.std.proofs.Common.{ℕ, ◌+◌, ◌^◌, ◌<◌, ◌≤◌, true, n
 use Rattle.std.specs.Prelude.{◌+ℤ◌, ◌≤ℤ◌, unsigned_abs}
 use Rattle.std.proofs.lemmas.Int.{ints}
 use Rattle.jbig2_mmr.specs.T6.{Head}
-use Rattle.jbig2_mmr.specs.inner.T6Reading.{row_of}
+use Rattle.jbig2_mmr.specs.inner.T6Reading.{pixels_of_row}
 use Rattle.jbig2_mmr.specs.inner.T6Calls.{head_of}
 use Rattle.jbig2_mmr.specs.inner.T6Steps.{words_after}
 use Rattle.jbig2_mmr.proofs.T6Distances.{sum-wide, wide-is, near-place}
@@ -16,7 +16,7 @@ returns-then-sum-from-clause-value g c = λ bits.
     let small : c.find_b1-b1.result < 2 ^ 32 = omega (arith, c.find_b1-b1.type_inv) in
     let sum = sum-wide c.find_b1-b1.result c.args.distance c.from.result c.from-2.result small c.ranges.distance c.from.ensures c.from-2.ensures in
     let start = wide-is c.args.place.a0 c.from-3.result (omega (arith, c.requires.column, c.width-width.type_inv, c.width-width.ensures.value)) c.from-3.ensures in
-    vertical-fault c.args.bitmap.now.width (row_of c.args.bitmap.now c.args.above) (head_of c.args.place) c.find_b1-b1.result c.args.distance bits c.find_b1-b1.ensures.value
+    vertical-fault c.args.bitmap.now.width (pixels_of_row c.args.bitmap.now c.args.above) (head_of c.args.place) c.find_b1-b1.result c.args.distance bits c.find_b1-b1.ensures.value
     (elim c.then-sum-from.branch [
       | then-sum-from-via-then-sum-from w ↦ outside-left c.args.place.a0 c.args.bitmap.now.width (pos c.find_b1-b1.result +ℤ c.args.distance) (grind (arith, ints, sum, start, w.if-sum-from.true))
       | then-sum-from-via-else-sum-from+then-sum-from-2 w ↦
@@ -34,7 +34,7 @@ returns-clause-value g c = λ bits.
     (grind (arith, ints, sum, start, c.if-sum-from.false), grind (arith, ints, sum, end, c.if-sum-from-2.false, c.width-width.ensures.value)) in
     let place = sum-place (pos c.find_b1-b1.result +ℤ c.args.distance) c.args.place.a0 c.args.bitmap.now.width inside.0 inside.1 in
     let a1 = ap unsigned_abs sum in
-    vertical-read c.args.bitmap.now.width (row_of c.args.bitmap.now c.args.above) (head_of c.args.place) c.find_b1-b1.result (unsigned_abs (pos c.find_b1-b1.result +ℤ c.args.distance)) c.args.distance _ bits c.find_b1-b1.ensures.value place.0 place.1 place.2 a1
+    vertical-read c.args.bitmap.now.width (pixels_of_row c.args.bitmap.now c.args.above) (head_of c.args.place) c.find_b1-b1.result (unsigned_abs (pos c.find_b1-b1.result +ℤ c.args.distance)) c.args.distance _ bits c.find_b1-b1.ensures.value place.0 place.1 place.2 a1
     (ap (λ (a : ℕ). let made : Head = record { a0 = a; past_start = true; black = not c.args.place.black } in made) a1)
 
 pub overflow_cast-a1 : goal.overflow_cast-a1

@@ -2,7 +2,7 @@ use Rattle.std.proofs.Common.{arith, min, get_or, length, ◌≡◌, ◌-◌, �
 use Rattle.std.proofs.lemmas.Bool.{and_right}
 use Rattle.std.proofs.lemmas.List.{get_or_default}
 use Rattle.jbig2_coder.specs.Coder.{Coder, Context, Registers, fresh, all_quiet}
-use Rattle.jbig2_coder.specs.Table.{row_of}
+use Rattle.jbig2_coder.specs.Table.{qe_row}
 use Rattle.jbig2_region.specs.inner.Neighbours.{nominal_pixels}
 use Rattle.jbig2_base.specs.Grid.{same_colour}
 use Rattle.jbig2_region.specs.Steps.{all_of}
@@ -17,7 +17,7 @@ returns-then-staying-eq0-clause-none g c = λ w h x y r grid len within above sh
 
 pub returns-then-staying-eq0-clause-coder : goal.returns-then-staying-eq0-clause-coder
 returns-then-staying-eq0-clause-coder g c =
-    ap (λ (q : Registers). let d : Coder = record { bytes = c.args.decoder.now.bytes; registers = q } in d) (no-fall c.args.decoder.now.registers (row_of (get_or c.args.contexts.now (all_of (nominal_pixels c.args.neighbours) c.args.black) fresh).row).qe)
+    ap (λ (q : Registers). let d : Coder = record { bytes = c.args.decoder.now.bytes; registers = q } in d) (no-fall c.args.decoder.now.registers (qe_row (get_or c.args.contexts.now (all_of (nominal_pixels c.args.neighbours) c.args.black) fresh).row).qe)
 
 pub returns-then-not-same_colour-clause-none : goal.returns-then-not-same_colour-clause-none
 returns-then-not-same_colour-clause-none g c = λ w h x y r grid len within above shows before has_decoded zero.
@@ -30,7 +30,7 @@ returns-then-not-same_colour-clause-none g c = λ w h x y r grid len within abov
 
 pub returns-then-not-same_colour-clause-coder : goal.returns-then-not-same_colour-clause-coder
 returns-then-not-same_colour-clause-coder g c =
-    ap (λ (q : Registers). let d : Coder = record { bytes = c.args.decoder.now.bytes; registers = q } in d) (no-fall c.args.decoder.now.registers (row_of (get_or c.args.contexts.now (all_of (nominal_pixels c.args.neighbours) c.args.black) fresh).row).qe)
+    ap (λ (q : Registers). let d : Coder = record { bytes = c.args.decoder.now.bytes; registers = q } in d) (no-fall c.args.decoder.now.registers (qe_row (get_or c.args.contexts.now (all_of (nominal_pixels c.args.neighbours) c.args.black) fresh).row).qe)
 
 pub returns-clause-none : goal.returns-clause-none
 returns-clause-none g c = λ w h x y r grid len within above shows before has_decoded zero.
@@ -59,4 +59,4 @@ returns-clause-coder g c =
     let number : c.uniform_context-number.result ≡ all_of (nominal_pixels c.args.neighbours) c.args.black = c.uniform_context-number.ensures.value ∙ uniform-number c.args.neighbours (length c.args.contexts.now) c.args.black c.requires.contexts in
     let read : c.index-contexts-number.result ≡ get_or c.args.contexts.now (all_of (nominal_pixels c.args.neighbours) c.args.black) fresh =
     c.index-contexts-number.is ∙ get_or_default c.args.contexts.now c.uniform_context-number.result c.index-contexts-number.result fresh c.uniform_context-number.ensures.inside ∙ ap (λ (n : ℕ). get_or c.args.contexts.now n fresh) number in
-    subst (λ (q : Context). c.decode_mps_runs.new.self ≡ record c.args.decoder.now { registers = record c.args.decoder.now.registers { a = c.args.decoder.now.registers.a - 8 * c.decode_mps_runs.result * (row_of q.row).qe } }) read c.decode_mps_runs.ensures.coder
+    subst (λ (q : Context). c.decode_mps_runs.new.self ≡ record c.args.decoder.now { registers = record c.args.decoder.now.registers { a = c.args.decoder.now.registers.a - 8 * c.decode_mps_runs.result * (qe_row q.row).qe } }) read c.decode_mps_runs.ensures.coder

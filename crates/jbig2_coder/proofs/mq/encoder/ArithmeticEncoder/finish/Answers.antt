@@ -1,13 +1,13 @@
 use Rattle.std.proofs.Common.{◌≡◌, ℕ, ◌+◌, ◌*◌, ◌^◌, List, reverse, sym, ap, ◌∙◌, arith}
-use Rattle.jbig2_coder.specs.Encoder.{Coding, byte_out, flush_coder, with_marker}
-use Rattle.jbig2_coder.specs.inner.EncoderViews.{coding_of, HasRoom}
+use Rattle.jbig2_coder.specs.Encoder.{EncoderState, byte_out, flush_coder, with_marker}
+use Rattle.jbig2_coder.specs.inner.EncoderViews.{encoder_state, HasRoom}
 use Rattle.jbig2_coder.proofs.Encoders.{shift-fits, flushed-code}
 use Rattle.jbig2_coder.proofs.ListSteps.{same_ok}
 use Rattle.jbig2_coder.proofs.mq.encoder.ArithmeticEncoder.finish.Goals as goal
 
 pub returns : goal.returns
 returns g c =
-    let s : Coding = coding_of c.self.inside.bytes.items c.self.inside.registers in
+    let s : EncoderState = encoder_state c.self.inside.bytes.items c.self.inside.registers in
     let low : ℕ = c.self.inside.registers.code.c in
     let room : HasRoom 0x10000 c.in_ok-first.first = c.in_ok-first.ensures.room 0x10000 (omega arith) in
     let once = ap (λ (n : ℕ). n * 2 ^ s.writer.wait) (sym c.set_bits.ensures.value)
@@ -18,6 +18,6 @@ returns g c =
     (c.in_ok-first.ensures.value ∙ ap (λ (n : ℕ). byte_out n s.writer.out) (sym once))
     (c.in_ok-byte_out.ensures.value ∙ ap (λ (n : ℕ). byte_out n (reverse c.byte_out.new.bytes.items)) (sym twice)) in
     same_ok _ _
-    (ap (λ (t : Coding). with_marker (flush_coder t).out) (sym c.self.view_is)
+    (ap (λ (t : EncoderState). with_marker (flush_coder t).out) (sym c.self.view_is)
     ∙ ap (λ (ys : List ℕ). with_marker ys) (sym out)
     ∙ sym c.in_ok-close.ensures.value)

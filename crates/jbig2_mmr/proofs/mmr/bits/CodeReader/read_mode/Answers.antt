@@ -7,7 +7,7 @@ use Rattle.jbig2_mmr.specs.T6.{read_code}
 use Rattle.jbig2_mmr.specs.T6Codes.{modes}
 use Rattle.jbig2_base.specs.inner.BitLists.{AreBits}
 use Rattle.jbig2_mmr.specs.inner.T6Reading.{Rest, padded_bits}
-use Rattle.jbig2_mmr.specs.inner.T6Steps.{IsNear}
+use Rattle.jbig2_mmr.specs.inner.T6Steps.{IsWithinThree}
 use Rattle.jbig2_mmr.proofs.T6Distances.{distance-is, kind-near}
 use Rattle.jbig2_mmr.proofs.T6Lookup.{lookup-none, lookup-short, lookup-some}
 use Rattle.jbig2_mmr.proofs.T6Tables.{modes-prefix_free, modes-short, mode_of, mode-none, mode-some, mode-small, kind-vertical, kind-horizontal, kind-pass}
@@ -55,7 +55,7 @@ returns-then-kind-gt2 c =
           ∙ found v c.from-size.result c.args.self.now.left c.skip.new.self.left small c.window.ensures.bits (c.window.ensures.value 7 (omega arith)) c.from-size.ensures c.if-size-eq0.false there left;
       bytes = ap (λ (r : Rest). r.bytes) c.skip.ensures;
       shorter = shorter-by c.from-size.result c.args.self.now.left c.skip.new.self.left c.if-size-eq0.false there left;
-      near = subst IsNear (sym (distance-is (e / 8) c.from.result (mode-small v small) c.from.ensures)) (kind-near (e / 8) c.if-kind-gt2.true);
+      near = subst IsWithinThree (sym (distance-is (e / 8) c.from.result (mode-small v small) c.from.ensures)) (kind-near (e / 8) c.if-kind-gt2.true);
       law = modes-prefix_free;
     }
 
