@@ -4,8 +4,9 @@ import subprocess
 
 from testing.error_texts import DEFINITION, TEXTS
 
-# Where any text may stand: in the definition, in what other commands make of crates and of the suite, and in what was new.
-ANYWHERE = (DEFINITION, "CHANGELOG.md", "conformance/manifest.tsv", "dist/")
+# Where any text may stand: in the definition, in what other commands make of crates and of the suite, in what programs printed,
+# and in what was new.
+ANYWHERE = (DEFINITION, "CHANGELOG.md", "conformance/manifest.tsv", "dist/", "docs/evidence.json")
 # These files, with the names of the errors.
 QUOTES = {
     "bindings/c/tool/hayro-jbig2.1": "Huffman(InvalidCode)",

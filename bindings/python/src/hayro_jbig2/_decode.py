@@ -69,7 +69,7 @@ def decode(
 
     `work_limit` is how many units of work the page may take, and as many again what it shares with other pages; None is
     no limit. A unit is about a pixel that is decoded, cleared or combined. The default is 100 for each pixel of the
-    page, 1000 for each byte of what is shared, but 2**30 at most, and 2**24 at least: more than what scanners write
+    page, 1024 for each byte of what is shared, but 2**30 at most, and 2**24 at least: more than what scanners write
     takes.
 
     Raises `DecodeError` for a fault of the data, `NoSuchPage` (an IndexError) for a page that the file hasn't,

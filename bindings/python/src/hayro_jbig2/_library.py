@@ -37,7 +37,7 @@ _LONGEST_LINE_END = 2
 # The limit of work where none is set: more than what scanners write takes (docs/USING.md, "Files that take long"). What
 # pages share can be long without being large where it was: a PDF file packs it.
 _UNITS_FOR_A_PIXEL = 100
-_UNITS_FOR_A_BYTE = 1000
+_UNITS_FOR_A_BYTE = 1024
 _UNITS_AT_LEAST = 1 << 24
 _UNITS_TO_SHARE_AT_MOST = 1 << 30
 
