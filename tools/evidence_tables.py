@@ -83,16 +83,29 @@ def heaviest(results, before):
     return [*table(head, rows), "", f"With {results[0][0]} (SIDE). The last four columns are within a limit of work."]
 
 
+def proofs(results, before):
+    """For each crate the seconds of the processor, and the most megabytes of a process; then what the whole took."""
+    lines = [line for _, result in results for line in result["figures"]]
+    cells = [line.split() for line in lines if re.fullmatch(r"\w+(?: +\d+){4}", line)]
+    rows = [[f"`{name}`", *numbers] for name, *numbers in cells]
+    return [*side_by_side(["Crate", "Proof", "Tests", "Edits", "MB"], rows, 2), "", f"{lines[-1]}."]
+
+
 # Stages that have a block of their own, which is written where all of their steps were run.
-OWN = {"gate": gate, "wrong-bodies": wrong_bodies, "refusals": refusals, "damage": damage, "heaviest": heaviest, "pages": pages}
+OWN = {
+    "gate": gate, "wrong-bodies": wrong_bodies, "refusals": refusals, "damage": damage, "heaviest": heaviest, "pages": pages,
+    "proofs": proofs,
+}
+# Stages of whose steps each line says how far a step came, and the last one all of it.
+LAST_LINE = ("comparisons",)
 
 
 def runs(stages):
     """A table of the steps that came to one line, and the lines of the others."""
     rows, long = [], []
     for stage, results in stages.items():
-        for name, result in results if stage not in OWN else []:
-            figures = result["figures"]
+        for name, result in results:
+            figures = result["figures"][-1:] if stage in LAST_LINE else result["figures"]
             if len(figures) == 1:
                 rows.append([f"{stage}: {name}", str(result["seconds"]), figures[0].replace("|", "\\|")])
             else:
@@ -101,13 +114,15 @@ def runs(stages):
 
 
 def written(text, stages, commit):
-    """The document with these results of a commit. A block stays as it was where it has no results."""
+    """The document with these results of a commit. A block stays as it was where it has no results, and a stage that the
+    document has no block for is told with the other runs."""
+    others = {name: results for name, results in stages.items() if name not in [block[1] for block in BLOCK.findall(text)]}
 
     def block(match):
         name, before = match[2], match[3]
         results = stages.get(name, [])
         if name == "runs":
-            lines = runs(stages)
+            lines = runs(others)
         else:
             lines = OWN[name](results, before) if results else []
         return f"{match[1]}Of the commit {commit[:8]}:\n\n" + "\n".join(lines) + "\n" + match[4] if lines else match[0]

@@ -31,7 +31,7 @@ impl Limit {
         self.units(|| u64::from(width) * u64::from(height) * FOR_A_PIXEL)
     }
 
-    /// The units that so many bytes may take, of which pages share what they decode to.
+    /// The units for what pages share, where that has `length` bytes.
     pub(crate) fn of_shared(self, length: usize) -> u64 {
         self.units(|| (length as u64).saturating_mul(FOR_A_BYTE).min(MOST_TO_SHARE))
     }
