@@ -114,8 +114,8 @@ def runs(stages):
 
 
 def written(text, stages, commit):
-    """The document with these results of a commit. A block stays as it was where it has no results, and a stage that the
-    document has no block for is told with the other runs."""
+    """The document with these results of a commit. A block stays as it was where it has no results. A stage without a
+    block is written with the other runs."""
     others = {name: results for name, results in stages.items() if name not in [block[1] for block in BLOCK.findall(text)]}
 
     def block(match):
