@@ -1,5 +1,6 @@
 //! Makes the library's assembly text ready for `global_asm!`, or compiles the C of `portable/` where no text fits the
-//! target. `HAYRO_JBIG2_PORTABLE=1` takes the C in any case. `CC_TARGET`, `TARGET_CC` or `CC` names the compiler.
+//! target. `HAYRO_JBIG2_PORTABLE=1` takes the C in any case. `CC_` and the target's name (with `_` for `-`), `TARGET_CC` or
+//! `CC` names the compiler.
 //!
 //! The text is assembled together with the code that rustc makes for this crate. Local labels of both begin with `.L`
 //! and are numbered alike, so those of the text get names of their own. Its other names, and those of this crate that

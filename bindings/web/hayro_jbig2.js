@@ -185,9 +185,10 @@ export class Decoder {
    * With `strict` the first fault is thrown. With `salvage`, for viewers of damaged files, whatever a lenient decoder
    * refuses is left out. Where that is each page of a file, page 0 is the error of the first.
    *
-   * Where the page's `isComplete` is false, `passedOver` tells what it lacks. `leftOut` tells what else reading left
-   * out: segments that pages share, as `passedOver`; how many `pages` of a file, with the error of the first as
-   * `firstPage`; and as `cutOff` the segment at which a list of segments ends early.
+   * Where the page's `isComplete` is false, `passedOver` tells what its own segments lack, and `leftOut` what else
+   * reading left out; a count may be 0. `leftOut` has segments that pages share, as `passedOver`; how many `pages` of
+   * a file, with the error of the first as `firstPage`; and as `cutOff` the segment at which a list of segments ends
+   * early.
    *
    * `workLimit` is a number of units, for the page and for what it shares with others, or Infinity. Where it isn't
    * given, it is 100 for each pixel of the page, and 2^24 at least; for what pages share it is 2^28.

@@ -131,6 +131,10 @@ class Pages(unittest.TestCase):
                         with self.assertRaises(hayro_jbig2.Jbig2Error) as caught:
                             hayro_jbig2.decode(data, **how)
                         self.assertEqual(caught.exception.variant, variant)
+                        if meant is of_file:
+                            with self.assertRaises(hayro_jbig2.Jbig2Error) as caught:
+                                list(hayro_jbig2.pages(data, **how))
+                            self.assertEqual(caught.exception.variant, variant)
 
     def test_a_fault_that_is_raised_keeps_no_file(self):
         data = bytes.fromhex("974A42320D0A1A0A 03 00000000 30 00 02 00000013 00000000 00000001") + bytes(11 + 1_000_000)

@@ -33,8 +33,8 @@ impl DecoderContext {
         self.passed_over().count == 0 && self.is_shared_whole
     }
 
-    /// What the page that was decoded last lacks; nothing after an error, and in a new context. `hayro-jbig2` 0.4.0 has
-    /// no such call.
+    /// What the own segments of the page that was decoded last lack; nothing after an error, and in a new context. For
+    /// what it shares with other pages see `left_out` of the globals or the page. `hayro-jbig2` 0.4.0 has no such call.
     pub fn passed_over(&self) -> PassedOver {
         self.inner.passed_over()
     }

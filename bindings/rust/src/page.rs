@@ -61,8 +61,8 @@ impl<'a> Page<'a> {
     }
 
     /// What was left out of the list of the page's segments; of a page of a file, what was left out of the file.
-    /// [`DecoderContext::passed_over`] has all that the page lacks, once it is decoded. `hayro-jbig2` 0.4.0 has no such
-    /// call.
+    /// [`DecoderContext::passed_over`] has what the page's own segments lack, once it is decoded; `left_out` of globals
+    /// has what these lack. `hayro-jbig2` 0.4.0 has no such call.
     pub fn left_out(&self) -> LeftOut {
         self.left_out
     }
@@ -123,7 +123,9 @@ impl<'a> Page<'a> {
         Ok(())
     }
 
-    /// Decodes the page to a byte for each pixel, rows from the top: 0 is black and 255 is white.
+    /// Decodes the page to a byte for each pixel, rows from the top: 0 is black and 255 is white. Only
+    /// [`decode_with`](Self::decode_with) takes another limit of work, and its context tells whether the page is
+    /// complete.
     ///
     /// # Errors
     ///
@@ -143,7 +145,9 @@ impl<'a> Page<'a> {
     }
 
     /// Decodes the page to packed rows, from the top: a bit for each pixel, 1 is black, the leftmost the highest of its
-    /// byte. A row has `width.div_ceil(8)` bytes, whose last bits are 0 after the width.
+    /// byte. A row has `width.div_ceil(8)` bytes, whose last bits are 0 after the width. As with
+    /// [`read_image`](Self::read_image), nothing tells whether the page is complete. `hayro-jbig2` 0.4.0 has no such
+    /// call.
     ///
     /// # Errors
     ///

@@ -2,7 +2,7 @@
 
 /// Units for each pixel of a page: scanned pages take 3 to 12.
 const FOR_A_PIXEL: u64 = 100;
-/// Units for each byte of what pages share: the dictionaries of scanned pages take 82 to 425.
+/// Units for each byte of what pages share: more than the dictionaries of scanned pages take.
 const FOR_A_BYTE: u64 = 1024;
 /// What small pages and small globals may take.
 const LEAST: u64 = 1 << 24;

@@ -94,7 +94,8 @@ def pages(
     """All pages of a file in order, each decoded when it is asked for. The limit of work is that of each page.
 
     Raises and warns as `decode` does: the first fault of the file at once, that of a page when it is asked for. That ends
-    the pages: `decode` has those after it.
+    the pages: `decode` has those after it. Where the file has no page, or none that can begin, asking for the first one
+    raises why.
     """
     file = _library.File(bytes_of(data), _reading(strict, salvage), work_limit)
     return _pages_of(file, work_limit, warn)
@@ -124,7 +125,8 @@ def pages_or_faults(
 def sizes(
     data: Data, *, strict: bool = False, salvage: bool = False, work_limit: WorkLimit = "default"
 ) -> list[Size]:
-    """Number, width and height of each page of a file or of an embedded page, none of which is decoded.
+    """Number, width and height of each page of a file or of an embedded page, none of which is decoded. Where a file has no
+    page, or none that can begin, the list is empty; `decode` says why.
 
     What the pages of a file share is decoded, within the limit of work.
     """
@@ -152,7 +154,8 @@ def checked(page: Page, warn: bool = True) -> Page:
 
 def _pages_of(file: _library.File, work_limit: WorkLimit, warn: bool) -> Iterator[Page]:
     with file:
-        for index in range(len(file.sizes)):
+        # Where there is no page, asking for one raises why.
+        for index in range(max(len(file.sizes), 1)):
             yield checked(_page_of(file, index, work_limit), warn)
 
 

@@ -7,7 +7,7 @@
 
 The pages are frames of mode "1", which `seek` chooses. They are read leniently, within the limit of work. One that is
 incomplete gives an `IncompletePageWarning` when it is loaded, and `info["is_complete"]` is false then;
-`info["passed_over"]` is how many segments it lacks. A fault of the data is an OSError.
+`info["passed_over"]` is how many of its own segments it lacks. A fault of the data is an OSError.
 """
 
 from __future__ import annotations
