@@ -16,7 +16,7 @@
  *
  * - Each pointer points to as many bytes, or to the one number, that the call says, and none is null but where it says
  *   so, or beside a length of 0: that is an empty input, as the data() of an empty std::vector. (The contracts ask for a
- *   pointer there too. So null beside 0 is tested, by empty_calls.c, and not proved.)
+ *   pointer there too. So null beside 0 is tested, by tests/empty_calls.c, and not proved.)
  * - What a call writes overlaps nothing else that it is handed. While it runs, nobody else reads or writes that, and
  *   nobody writes what it reads.
  * - A bool is 0 or 1, as stdbool.h's are.

@@ -1,7 +1,7 @@
 /* The version, and the texts of hayro_jbig2.h's answers. bindings/c/test compares these with those of the Rattle library. */
 #include "hayro_jbig2.h"
 
-/* The texts of crates/jbig2_base/specs/ErrorTexts.antt, written by testing/commands/errors --write */
+/* The texts of crates/jbig2_base/specs/ErrorTexts.antt, written by tools/lists/errors --write */
 static const char *const errors[] = {
     [HAYRO_JBIG2_PARSE_UNEXPECTED_EOF] = "unexpected end of input",
     [HAYRO_JBIG2_FORMAT_INVALID_HEADER] = "invalid JBIG2 file header",

@@ -1,4 +1,4 @@
-/** The name and the text of each result of the library, by its number. Written by testing/commands/errors --write. */
+/** The name and the text of each result of the library, by its number. Written by tools/lists/errors --write. */
 export const ERRORS = {
   0: ["OK", "no error"],
   1: ["PARSE_UNEXPECTED_EOF", "unexpected end of input"],

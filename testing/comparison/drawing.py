@@ -4,7 +4,7 @@ import os
 import signal
 import subprocess
 
-from bindings.c.bindings import loaded
+from bindings.c.tests.bindings import loaded
 from testing.comparison.limited import Runner
 
 LONGEST = 60

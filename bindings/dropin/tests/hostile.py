@@ -18,13 +18,13 @@ import random
 import sys
 import tempfile
 
-from conformance.runner.damage import damaged
+from testing.damaged import damaged
 from conformance.runner.decoders import own_program
 from conformance.runner.limits import Ended, run
 from conformance.runner.manifest import Sample
 from conformance.runner.pdf import Image
 from conformance.runner.pictures import NoPicture, Picture, pictures_of
-from conformance.runner.samples import image_of_sample, rich_sample, samples_of
+from testing.samples import image_of_sample, rich_sample, samples_of
 from testing.error_texts import TEXTS
 from bindings.dropin.tests.peers import LENIENT, LIMITS, OURS, PEERS, SYSTEM, UNLIMITED, Library, Peer, pictures_by
 

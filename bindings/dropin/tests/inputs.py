@@ -11,7 +11,7 @@ import argparse
 import pathlib
 
 from conformance.runner.pdf import pdf_of
-from conformance.runner.samples import image_of_sample, rich_sample, samples_of
+from testing.samples import image_of_sample, rich_sample, samples_of
 
 
 def main() -> None:

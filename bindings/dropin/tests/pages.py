@@ -16,7 +16,7 @@ import tempfile
 
 from conformance.runner.manifest import Entry, Sample
 from conformance.runner.pictures import Picture
-from conformance.runner.samples import image_of_sample, samples_of
+from testing.samples import image_of_sample, samples_of
 from bindings.dropin.tests.peers import OURS, PEERS, SYSTEM, Library, pictures_by, pictures_by_program, pictures_of_file
 
 PAGES_IN_A_PDF = 100

@@ -21,11 +21,11 @@ import random
 import sys
 import tempfile
 
-from conformance.runner.damage import damaged
+from testing.damaged import damaged
 from conformance.runner.embedding import embedded_page, image_of
 from conformance.runner.pdf import Image
 from conformance.runner.pictures import Picture, pictures_of
-from conformance.runner.samples import image_of_sample, samples_of
+from testing.samples import image_of_sample, samples_of
 from conformance.runner.segments import END_OF_FILE, END_OF_PAGE, PAGE_INFORMATION, UNKNOWN_LENGTH, sequential
 from bindings.dropin.tests.hostile import SOME_PEERS, Stream
 from bindings.dropin.tests.pages import wrong_in_pdf

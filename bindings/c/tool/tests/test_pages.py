@@ -24,7 +24,7 @@ from support import (
     run,
 )
 
-from conformance.runner.damage import damaged
+from testing.damaged import damaged
 from conformance.runner.embedding import file_of, embedded_page
 from conformance.runner.manifest import PICTURE, read_manifest, read_sample
 from conformance.runner.segments import header_at, with_data

@@ -1,4 +1,4 @@
-//! The texts of the errors. `testing/commands/errors --write` writes them, as
+//! The texts of the errors. `tools/lists/errors --write` writes them, as
 //! `crates/jbig2_base/specs/ErrorTexts.antt` defines them.
 
 use super::*;

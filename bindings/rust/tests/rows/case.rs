@@ -120,7 +120,7 @@ impl Case {
     }
 }
 
-/// Writes a page as a file of its own, if the environment names a folder: `conformance/limits` tries such files.
+/// Writes a page as a file of its own, if the environment names a folder: `testing/limits/run` tries such files.
 fn save(name: &str, parts: &[&[u8]]) {
     let Some(folder) = std::env::var_os("HAYRO_JBIG2_ROWS_FOLDER") else {
         return;

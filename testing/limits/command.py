@@ -1,6 +1,6 @@
 """Tries the limit of work of the shared library for C, on the conformance suite or on files.
 
-usage: conformance/limits [--long] [--every UNITS] [--jobs COUNT] [--library LIBRARY] [FILE ..]
+usage: testing/limits/run [--long] [--every UNITS] [--jobs COUNT] [--library LIBRARY] [FILE ..]
 
 Each page is drawn without a limit, then within exactly what it takes, which must change nothing: not the rows, nor the
 fault that refuses the page, if one does. Then it is drawn within less, which must be refused for want of work with
@@ -23,10 +23,10 @@ import os
 import pathlib
 import sys
 
-from conformance.limited import bounds, subjects
-from conformance.limited.library import NO_LIMIT, Library, Page
-from conformance.limited.pair_trials import tried_pairs
-from conformance.limited.trials import Found, Trial
+from testing.limits import bounds, subjects
+from testing.limits.library import NO_LIMIT, Library, Page
+from testing.limits.pair_trials import tried_pairs
+from testing.limits.trials import Found, Trial
 
 ROOT = pathlib.Path(__file__).resolve().parents[2]
 EXAMPLE = ROOT / "crates" / "jbig2_decode" / "data" / "t88-h1.jb2"
@@ -90,7 +90,7 @@ def main() -> int:
     try:
         return report(all_tried(options))
     except (OSError, AttributeError) as fault:
-        print(f"conformance/limits: {fault}", file=sys.stderr)
+        print(f"testing/limits/run: {fault}", file=sys.stderr)
         return 2
 
 

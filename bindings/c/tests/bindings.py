@@ -9,7 +9,7 @@ NUMBERS = {
     "bool": ctypes.c_bool, "size_t": ctypes.c_size_t, "uint32_t": ctypes.c_uint32, "uint64_t": ctypes.c_uint64
 }
 RESULTS = {**NUMBERS, "void": None, "const char *": ctypes.c_char_p}
-HEADER = pathlib.Path(__file__).with_name("hayro_jbig2.h").read_text("utf-8")
+HEADER = pathlib.Path(__file__).parents[1].joinpath("hayro_jbig2.h").read_text("utf-8")
 CALL = re.compile(rf"^(const char \*|\w+ ){PREFIX}(\w+)\(([^;]*)\);", re.M)
 STRUCTURE = re.compile(rf"^typedef struct {PREFIX}(\w+) {{\n(.*?)^}}", re.M | re.S)
 FIELDS = re.compile(rf"^ *({'|'.join(NUMBERS)}) ([\w, ]+);", re.M)

@@ -12,7 +12,7 @@ import tempfile
 from bindings import STRUCTURES, loaded
 from testing.error_texts import TEXTS, in_c
 
-HERE = os.path.dirname(os.path.abspath(__file__))
+HERE = os.path.dirname(os.path.dirname(os.path.abspath(__file__)))
 CRATES = os.path.join(os.path.dirname(os.path.dirname(HERE)), "crates")
 DATA = os.path.join(CRATES, "jbig2_decode", "data")
 PageInfo, PassedOver, LeftOut = (STRUCTURES[name] for name in ("page_info", "passed_over", "left_out"))
@@ -38,7 +38,7 @@ def text_of(*path):
 
 def compare_numbers(library):
     """The text that the library has for each number of the header, with that of the definitions, by the error's name; and
-    the version. testing/commands/errors compares the other lists."""
+    the version. tools/lists/errors compares the other lists."""
     header = text_of(HERE, "hayro_jbig2.h")
     numbers = {name: int(number) for name, number in re.findall(r"^    HAYRO_JBIG2_(\w+) = (\d+)", header, re.M)}
     check(len(TEXTS) == len([number for number in numbers.values() if 0 < number < 100]), "the header has all errors")

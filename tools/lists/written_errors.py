@@ -1,4 +1,4 @@
-"""The lists into which `testing/commands/errors --write` writes the texts of the errors, as testing/error_texts.py has them: for
+"""The lists into which `tools/lists/errors --write` writes the texts of the errors, as testing/error_texts.py has them: for
 the languages of bindings/ all lines, and in the crates the texts alone, since the rest of these lists is written by hand.
 """
 import re
@@ -6,7 +6,7 @@ import sys
 
 from testing.error_texts import DEFINITION, TEXTS, in_c, named
 
-COMMAND = "testing/commands/errors --write"
+COMMAND = "tools/lists/errors --write"
 HEADER = "bindings/c/hayro_jbig2.h"
 TEXTS_FOR_C = "bindings/c/texts.c"
 TEXTS_FOR_RUST = "bindings/rust/src/error/texts.rs"

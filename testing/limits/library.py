@@ -6,7 +6,7 @@ import dataclasses
 from collections.abc import Callable
 from ctypes import byref, c_uint64, c_void_p
 
-from bindings.c.bindings import STRUCTURES, loaded
+from bindings.c.tests.bindings import STRUCTURES, loaded
 
 OK, NO_SUCH_PAGE, WORK_LIMIT = 0, 101, 103
 NO_LIMIT = 2**64 - 1

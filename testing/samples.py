@@ -3,9 +3,9 @@ from __future__ import annotations
 
 import pathlib
 
-from .embedding import image_of
-from .manifest import Sample, read_manifest, read_sample
-from .pdf import Image
+from conformance.runner.embedding import image_of
+from conformance.runner.manifest import Sample, read_manifest, read_sample
+from conformance.runner.pdf import Image
 
 
 def samples_of(suite: pathlib.Path) -> list[Sample]:

@@ -1,6 +1,6 @@
 """Compares each list of the errors in the tree with the enums of crates/jbig2_base/src/error.rt, in both directions.
 
-usage: testing/commands/errors [--write]
+usage: tools/lists/errors [--write]
 
 An error's text is in specs/ErrorTexts.antt of that crate, its number in bindings/c/source/specs/Numbers.antt.txt. The comment of
 an error that no bytes cause ends with "never returned". With --write the texts are first written into the lists that
@@ -11,8 +11,8 @@ import sys
 from pathlib import Path
 from typing import NamedTuple
 
-from testing.commands.quoted_texts import misquoted
-from testing.commands.written_errors import COMMAND, HEADER, IN_C, IN_CRATE, OTHERS_FOR_C, TEXTS_FOR_C, TEXTS_IN_CRATES, written
+from tools.lists.quoted_texts import misquoted
+from tools.lists.written_errors import COMMAND, HEADER, IN_C, IN_CRATE, OTHERS_FOR_C, TEXTS_FOR_C, TEXTS_IN_CRATES, written
 from testing.error_texts import DEFINITION, TEXTS, in_c, named
 
 ROOT = Path(__file__).resolve().parents[2]

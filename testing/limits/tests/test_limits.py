@@ -1,12 +1,12 @@
 """The trials of the limit of work, as far as they need no library."""
 import unittest
 
-from conformance.limited.bounds import Bound
-from conformance.limited.pairs import all_pairs
-from conformance.limited.prices import bitmap, price, rows
-from conformance.limited.repeated import referred, repeated
-from conformance.limited.subjects import forms_of
-from conformance.limited.trials import SMALL, SPREAD, Taken, least, limits_below
+from testing.limits.bounds import Bound
+from testing.limits.pairs import all_pairs
+from testing.limits.prices import bitmap, price, rows
+from testing.limits.repeated import referred, repeated
+from testing.limits.subjects import forms_of
+from testing.limits.trials import SMALL, SPREAD, Taken, least, limits_below
 from conformance.runner.embedding import Embedded
 from conformance.runner.segments import sequential
 from testing.jbig2_encoder.framing import HEADER, page_information, segment
