@@ -1,10 +1,10 @@
 /*
  * A decoder of JBIG2 (ITU-T T.88), the bi-level format of scanned pages: the static library libhayro_jbig2.a.
  *
- * Each call is proved. It returns HAYRO_JBIG2_OK and gives what the library's definitions give for these bytes, or it
- * returns the number of their first error, or HAYRO_JBIG2_OUT_OF_MEMORY. After an error, all that the call could have
- * written is as it was. Only a call that draws changes its context all the same (hayro_jbig2_page_draw). No call reads
- * or writes anything outside of what it is handed, and each call returns.
+ * Each call is proved; in the portable C it is only tested. It returns HAYRO_JBIG2_OK and gives what the library's
+ * definitions give for these bytes, or it returns the number of their first error, or HAYRO_JBIG2_OUT_OF_MEMORY. After
+ * an error, all that the call could have written is as it was. Only a call that draws changes its context all the same
+ * (hayro_jbig2_page_draw). No call reads or writes anything outside of what it is handed, and each call returns.
  *
  * Some are a few lines of C over proved calls, which are tested: hayro_jbig2_page_new, hayro_jbig2_page_new_salvaged,
  * hayro_jbig2_file_get_infos and those that free a handle. hayro_jbig2_version and hayro_jbig2_error_text are C alone.
