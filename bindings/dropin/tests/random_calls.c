@@ -197,12 +197,12 @@ static void take_page(struct open_context *open) {
         if (place->image == NULL) {
             struct image *image = jbig2_page_out(open->context);
             /* Another page may have come to this place out of an allocator. */
-            while (image != NULL && place < images + IMAGES && place->image != NULL)
+            while (place < images + IMAGES && place->image != NULL)
                 place++;
             if (image != NULL && place == images + IMAGES)
                 jbig2_release_page(open->context, image);
-            else
-                *place = (struct open_image){image, image == NULL ? NULL : open, image != NULL};
+            else if (image != NULL)
+                *place = (struct open_image){image, open, 1};
             return;
         }
 }
