@@ -2,8 +2,8 @@
 #![tactic(auto)]
 
 pub mod bitmap;
+pub mod code_length;
 pub mod error;
 mod error_text;
 pub mod field;
 pub mod reader;
-pub mod search;

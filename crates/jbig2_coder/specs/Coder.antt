@@ -2,7 +2,7 @@
 -- differ if a byte from 80 to 8F follows a byte FF, which no encoder writes. Then Annex G decides: in a fresh context
 -- the bytes FF 8F begin with the decision 0, where Annex E has 1.
 use Rattle.std.specs.Prelude.{ℕ, suc, zero, ◌+◌, ◌-◌, ◌*◌, ◌/◌, ◌%◌, ◌^◌, Bool, true, false, not, ◌&&◌, ◌||◌}
-use Rattle.std.specs.Prelude.{if◌then◌else◌, ◌==◌, nat_lt, nat_le, List, length, slice_index_or}
+use Rattle.std.specs.Prelude.{if◌then◌else◌, ◌==◌, nat_lt, nat_le, List, length, replicate, slice_index_or}
 use Rattle.jbig2_coder.specs.Table.{qe_row}
 use Rattle.jbig2_coder.specs.declared.arithmetic_decoder.registers.CodeRegister.{CodeRegister}
 
@@ -11,6 +11,9 @@ Context = record { row : ℕ; likely : Bool }
 
 abbrev pub fresh : Context
 fresh = record { row = 0; likely = false }
+
+abbrev pub fresh_contexts : ℕ → List Context
+fresh_contexts bits = replicate (2 ^ bits) fresh
 
 abbrev pub Registers : Type 0  -- A, and the code register: C, CT and the place of the last byte read
 Registers = record { a : ℕ; code : CodeRegister }

@@ -1,4 +1,4 @@
--- The arithmetic encoder (T.88, E.2), one shift at a time. EncoderState a decision in its context takes the registers and the
+-- The arithmetic encoder (T.88, E.2), one shift at a time. ENCODE takes a decision in its context, the registers and the
 -- bytes so far, and gives the next ones. FLUSH ends the bytes. Then come whole lists of decisions, and the law that the
 -- decoder of `Coder` reads them back.
 use Rattle.std.specs.Prelude.{ℕ, suc, zero, ◌+◌, ◌-◌, ◌*◌, ◌/◌, ◌%◌, ◌^◌, Bool, true, false, not, if◌then◌else◌, ◌==◌}

@@ -1,14 +1,17 @@
 //! The arithmetic decoder (T.88, Annexes E and G).
 
-ghost use Rattle.std.specs.Prelude.{◌≡◌, ℕ, ◌+◌, ◌-◌, ◌*◌, ◌/◌, ◌^◌, ◌<◌, ◌≤◌, not, true, false, max, if◌then◌else◌};
+ghost use Rattle.std.specs.Prelude.{◌≡◌, ℕ, ◌+◌, ◌-◌, ◌*◌, ◌/◌, ◌^◌, ◌<◌, ◌≤◌, not, true, false, max, if◌then◌else◌, Ok};
 ghost use Rattle.jbig2_base.specs.Grid.{bit_number};
+ghost use Rattle.jbig2_base.specs.Results.{Gives};
 ghost use Rattle.jbig2_coder.specs.Table.{qe_row};
-ghost use Rattle.jbig2_coder.specs.Coder.{fresh, byte_at, byte_in, renormd, initial_registers, choice, is_within, likely_next, unlikely_next, decision, all_quiet};
+ghost use Rattle.jbig2_coder.specs.Coder.{fresh, fresh_contexts, byte_at, byte_in, renormd, initial_registers, choice, is_within, likely_next, unlikely_next, decision, all_quiet};
 ghost use Rattle.jbig2_coder.specs.inner.States.{Does};
 
 use crate::arithmetic_decoder::qe_table::{State, state_at};
 use crate::arithmetic_decoder::registers::{BufferedRegisters, CodeBuffer, byte_at, byte_in};
 use jbig2_base::bitmap::steps::Steps;
+use jbig2_base::error::Result;
+use std::alloc::Allocator;
 use std::marker::Model;
 use std::sync::ledger::Ledger;
 
@@ -141,6 +144,19 @@ impl ArithmeticDecoderContext {
             below,
         }
     }
+}
+
+/// Makes `contexts` 2 to the power of `bits` fresh contexts.
+pub fn fresh_contexts<A: Allocator>(
+    contexts: &mut Vec<ArithmeticDecoderContext, A>,
+    bits: u32,
+) -> Result<()>
+    requires { bits ≤ 16 }
+    ensures { Gives (λ _. contexts.new.items) result (Ok (fresh_contexts bits)) }
+{
+    contexts.clear();
+    contexts.resize(1 << bits, ArithmeticDecoderContext::new())?;
+    Ok(())
 }
 
 /// The least value of A after a quiet decision, by the upper half of the code register C.

@@ -4,6 +4,7 @@ use Rattle.std.specs.Prelude.{ℕ, suc, zero, ◌+◌, ◌*◌, ◌/◌, ◌%◌
 use Rattle.std.specs.Prelude.{◌||◌, List, [], ◌∷◌, take, drop, length, slice_index, Option, Some, None, Result, Ok, Err}
 use Rattle.std.specs.Prelude.{if◌then◌else◌}
 use Rattle.std.specs.List.{list_any}
+use Rattle.std.specs.Option.{option_map_or}
 use Rattle.std.specs.Int.{Width, w8, w16, w32, byte_len, from_be_bytes}
 use Rattle.jbig2_base.specs.Results.{◌>>=◌, refuse_if}
 use Rattle.jbig2_base.specs.Fields.{bytes_at, number_at}
@@ -27,6 +28,10 @@ pub record Header : Type 0 where  -- a segment's header (7.2.2 to 7.2.7)
 pub record SegmentView : Type 0 where
   pub header : Header
   pub bytes : List ℕ
+
+-- Whether the data of a segment is cut off: there are fewer bytes than its header says.
+abbrev pub is_partial : SegmentView → Bool
+is_partial p = option_map_or (λ n. nat_lt (length p.bytes) n) p.header.data_length false
 
 unfoldable pub type_of : ℕ → SegmentType  -- the segment types of 7.3, by their numbers
 type_of n =

@@ -9,7 +9,7 @@ ghost use Rattle.jbig2_base.specs.Causes.{HasCause, HasCauseOrNoMemory};
 ghost use Rattle.jbig2_framing.specs.Causes.{BreaksHeader, BreaksData};
 ghost use Rattle.jbig2_framing.specs.CutOff.{partial_at};
 ghost use Rattle.jbig2_base.specs.Fields.{number_at, Parses, Takes};
-ghost use Rattle.jbig2_framing.specs.Segment.{Header, type_of, is_reserved, is_immediate_generic, long_count_at, count_at, number_width, numbers_in, referred_at, length_of, header_at, data_at, segment_data_at, segment_at};
+ghost use Rattle.jbig2_framing.specs.Segment.{Header, is_partial, type_of, is_reserved, is_immediate_generic, long_count_at, count_at, number_width, numbers_in, referred_at, length_of, header_at, data_at, segment_data_at, segment_at};
 ghost use Rattle.jbig2_framing.specs.inner.SegmentViews.{header_view, partial_view, segment_view};
 
 mod end_marker;
@@ -356,5 +356,15 @@ pub(crate) fn partial_segment<'a, A: Allocator>(
         }
         Err(DecodeError::OutOfMemory) => Err(DecodeError::OutOfMemory),
         Err(_) => Ok(None),
+    }
+}
+
+/// Whether the data of a segment is cut off.
+pub fn is_partial<A: Allocator>(segment: &Segment<'_, A>) -> bool
+    ensures { result ≡ is_partial (segment_view segment.now) }
+{
+    match segment.header.data_length {
+        Some(length) => segment.bytes.len() < length as usize,
+        None => false,
     }
 }

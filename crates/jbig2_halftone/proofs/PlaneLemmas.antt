@@ -11,7 +11,8 @@ use Rattle.jbig2_base.specs.declared.error.DecodeError.{DecodeError}
 use Rattle.jbig2_coder.specs.Coder.{Coder, Context, Registers, initial_registers}
 use Rattle.jbig2_region.specs.Generic.{coding_of}
 use Rattle.jbig2_region.specs.inner.RegionStates.{DecodesRegion, HasDecoded, region_state}
-use Rattle.jbig2_region.specs.Raster.{so_far, decoded_region, no_pixels, fresh_contexts}
+use Rattle.jbig2_region.specs.Raster.{so_far, decoded_region, no_pixels}
+use Rattle.jbig2_coder.specs.Coder.{fresh_contexts}
 use Rattle.jbig2_region.specs.{Generic.{skipping_coding}, inner.RegionViews.{skip_of}}
 use Rattle.jbig2_mmr.specs.T6.{DecodedRows, Rows, mmr_rows, grid_of_rows, rows_of}
 use Rattle.jbig2_region.specs.Templates.{context_bits, template_pixels, nominal_adaptive_pixels}

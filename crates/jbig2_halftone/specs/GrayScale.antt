@@ -11,7 +11,8 @@ use Rattle.jbig2_base.specs.declared.error.OverflowError.TheVariants.{BitmapDime
 use Rattle.jbig2_mmr.specs.T6.{mmr_rows}
 use Rattle.jbig2_coder.specs.Coder.{Context, initial_registers}
 use Rattle.jbig2_region.specs.Generic.{number_of, skipping_coding}
-use Rattle.jbig2_region.specs.Raster.{Region, so_far, decoded_region, no_pixels, fresh_contexts}
+use Rattle.jbig2_region.specs.Raster.{Region, so_far, decoded_region, no_pixels}
+use Rattle.jbig2_coder.specs.Coder.{fresh_contexts}
 use Rattle.jbig2_region.specs.Templates.{context_bits, nominal_adaptive_pixels, template_pixels}
 use Rattle.jbig2_region.specs.declared.template.Template.{Template}
 

@@ -43,7 +43,8 @@ use Rattle.jbig2_page.specs.Files.{PageInFile, ReadFile, association_check, book
 use Rattle.jbig2_page.specs.Lenient.{LenientReadingAgrees, ReadingsAgree, SalvageAgrees}
 use Rattle.jbig2_page.specs.Names.{Names, ReferredValues, KeptGlobals, nothing_shared, fault_of, or_shared_without, extension, first_kept, kept_by, kept_of, no_names, pattern_dictionary_at, referred_by, symbol_dictionary_at, with_code, with_dictionary, with_number, with_numbers, with_patterns, with_symbols, with_table, globals_at, shared_from}
 use Rattle.jbig2_page.specs.Page.{Drawing, ReadPage, beginning_of, drawing_of_page, page_from, page_segments, part_of_list, ends_page, immediate, intermediate, strict_fault, with_names, or_left_out, or_passed_over, or_told, blank_page, region_at, regions_height, segment_by, segment_on, segments_drawn, with_cut_off, with_drawn_region, known_height}
-use Rattle.jbig2_page.specs.Regions.{generic_at, halftone_at, is_partial, with_whole_instances, with_whole_rows, patterns_for, referred_region, refinement_at, text_at}
+use Rattle.jbig2_page.specs.Regions.{generic_at, halftone_at, with_whole_instances, with_whole_rows, patterns_for, referred_region, refinement_at, text_at}
+use Rattle.jbig2_framing.specs.Segment.{is_partial}
 use Rattle.jbig2_page.specs.declared.kept.Kept.{Kept}
 use Rattle.jbig2_page.specs.declared.region.RegionKind.{RegionKind}
 use Rattle.jbig2_page.specs.declared.region.RegionKind.TheVariants as kinds

@@ -11,7 +11,7 @@ use Rattle.jbig2_framing.specs.declared.reading.Reading.TheVariants.{Strict, Len
 use Rattle.jbig2_region.specs.RegionInfo.{PlacedRegion}
 use Rattle.jbig2_page.specs.Names.{Names, fault_of, kept_by, with_passed}
 use Rattle.jbig2_page.specs.Page.{Drawing, segments_drawn, ends_page, immediate, intermediate, strict_fault, with_names, or_left_out, or_passed_over, or_told, passing, region_at, segment_by, segment_on, with_drawn_region, with_region}
-use Rattle.jbig2_page.specs.Regions.{is_partial}
+use Rattle.jbig2_framing.specs.Segment.{is_partial}
 use Rattle.jbig2_page.proofs.SegmentTypes.{of-segment}
 
 -- R holds between what was drawn before a segment and what is drawn after it, whatever the segment is.

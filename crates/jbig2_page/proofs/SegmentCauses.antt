@@ -28,7 +28,8 @@ use Rattle.jbig2_symbol.specs.Symbols.{Symbols}
 use Rattle.jbig2_page.specs.Causes.{BreaksExtension, BreaksPatternReference, BreaksReferred, BreaksRefinement}
 use Rattle.jbig2_page.specs.Names.{Names, ReferredValues, first_kept, kept_of, referred_by, with_dictionary, with_number, with_numbers, with_table, extension}
 use Rattle.jbig2_region.specs.WholeRows.{refined_part}
-use Rattle.jbig2_page.specs.Regions.{is_partial, page_area, patterns_for, referred_region, refinement_at}
+use Rattle.jbig2_page.specs.Regions.{page_area, patterns_for, referred_region, refinement_at}
+use Rattle.jbig2_framing.specs.Segment.{is_partial}
 use Rattle.jbig2_page.specs.declared.kept.Kept.{Kept}
 use Rattle.jbig2_page.proofs.Causes.{at-first, at-later}
 

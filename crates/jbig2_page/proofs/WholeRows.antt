@@ -5,7 +5,8 @@ use Rattle.jbig2_mmr.specs.T6.{Rows, bits_of, ends_block, pixel_of, row, rows_fr
 use Rattle.jbig2_coder.specs.Coder.{initial_registers}
 use Rattle.jbig2_region.specs.Generic.{generic_coding}
 use Rattle.jbig2_region.specs.GenericHeader.{GenericHeader, IsParsed}
-use Rattle.jbig2_region.specs.Raster.{fresh_contexts, no_pixels, source}
+use Rattle.jbig2_region.specs.Raster.{no_pixels, source}
+use Rattle.jbig2_coder.specs.Coder.{fresh_contexts}
 use Rattle.jbig2_region.specs.Templates.{context_bits}
 use Rattle.jbig2_region.proofs.PartLemmas.{whole-most}
 use Rattle.jbig2_region.specs.WholeRows.{whole_generic_rows, whole_rows}

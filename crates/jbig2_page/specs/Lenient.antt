@@ -21,7 +21,7 @@ use Rattle.jbig2_page.specs.Files.{ReadFile, book_at, of_page, page_of, segments
 use Rattle.jbig2_page.specs.Names.{Names, globals_at, nothing_passed}
 use Rattle.jbig2_page.specs.Page.{Drawing, IsSide, ReadPage, blank_page, drawing_of_page, page_from, page_segments, known_height}
 use Rattle.jbig2_page.specs.Page.{segments_drawn}
-use Rattle.jbig2_page.specs.Regions.{is_partial}
+use Rattle.jbig2_framing.specs.Segment.{is_partial}
 
 -- Strict reading passes over nothing: its lists of segments never end early, and no segment of them is passed over.
 pub record StrictPassesNothing : Type 0 where

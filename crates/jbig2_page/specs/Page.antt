@@ -25,7 +25,8 @@ use Rattle.jbig2_region.specs.RegionInfo.{PlacedRegion, region_info_at}
 use Rattle.jbig2_region.specs.declared.region_info.RegionSegmentInfo.{RegionSegmentInfo}
 use Rattle.jbig2_page.specs.Names.{Names, fault_of, kept_by, kept_under, no_names}
 use Rattle.jbig2_page.specs.Names.{nothing_passed, with_passed}
-use Rattle.jbig2_page.specs.Regions.{generic_at, halftone_at, is_partial, refinement_at, text_at}
+use Rattle.jbig2_page.specs.Regions.{generic_at, halftone_at, refinement_at, text_at}
+use Rattle.jbig2_framing.specs.Segment.{is_partial}
 use Rattle.jbig2_page.specs.declared.kept.Kept.{Kept}
 use Rattle.jbig2_page.specs.declared.drawing.passed_over.PassedOver.{PassedOver}
 use Rattle.jbig2_page.specs.declared.region.RegionKind.{RegionKind}

@@ -1,11 +1,10 @@
 -- The regions of a page (T.88, 7.4.3 and 7.4.5 to 7.4.7): what each kind of region decodes to, a grid of its own at a
 -- place. `Page` says whether it is then drawn or kept.
-use Rattle.std.specs.Prelude.{ℕ, Bool, false, ◌&&◌, not, nat_lt, if◌then◌else◌, is_none, List, [], ◌∷◌, length, Option}
+use Rattle.std.specs.Prelude.{ℕ, Bool, false, ◌&&◌, not, if◌then◌else◌, is_none, List, [], ◌∷◌, length, Option}
 use Rattle.std.specs.Prelude.{None, unwrap_or, Result, Ok}
-use Rattle.std.specs.Option.{option_map_or}
 use Rattle.jbig2_base.specs.Results.{refuse_if, some_or, ◌>>=◌}
 use Rattle.jbig2_base.specs.Grid.{Grid, part_of}
-use Rattle.jbig2_framing.specs.Segment.{SegmentView}
+use Rattle.jbig2_framing.specs.Segment.{SegmentView, is_partial}
 use Rattle.jbig2_base.specs.declared.error.DecodeError.{DecodeError}
 use Rattle.jbig2_base.specs.declared.error.DecodeError.TheVariants.{Segment}
 use Rattle.jbig2_base.specs.declared.error.SegmentError.TheVariants.{InvalidReference, MissingPatternDictionary}
@@ -26,10 +25,6 @@ use Rattle.jbig2_text.specs.TextRegion.{text_decoded}
 use Rattle.jbig2_text.specs.WholeInstances.{whole_instances}
 use Rattle.jbig2_page.specs.Names.{Names, first_kept, kept_of, referred_by}
 use Rattle.jbig2_page.specs.declared.kept.Kept.{Kept}
-
--- Whether the data of a segment is cut off: there are fewer bytes than its header says.
-abbrev pub is_partial : SegmentView → Bool
-is_partial p = option_map_or (λ n. nat_lt (length p.bytes) n) p.header.data_length false
 
 -- A text region whose data is cut off ends after its whole instances (our own rule).
 abbrev pub with_whole_instances : Bool → TextHeader → List Grid → List (List Member) → TextHeader

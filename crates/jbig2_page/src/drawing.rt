@@ -14,16 +14,14 @@ ghost use Rattle.jbig2_steps.specs.Work.{Paid, budget};
 ghost use Rattle.jbig2_steps.specs.declared.prices.TheConstants as prices;
 
 pub mod canvas;
-pub(crate) mod dictionaries;
 pub mod drawn_rows;
 pub(crate) mod packed;
 pub mod passed_over;
 
 use crate::drawing::canvas::Canvas;
-use crate::drawing::dictionaries::{extension, keep_patterns, keep_symbols, keep_table, unlisted};
 use crate::kept::Kept;
+use crate::kept::dictionaries::{extension, keep_patterns, keep_symbols, keep_table, unlisted};
 use crate::kept::names::{KeptNames, Lookup};
-use crate::region::partial::is_partial;
 use crate::region::references::References;
 use crate::region::{RegionKind, parse_region};
 use crate::segment_price::pay_segment;
@@ -31,7 +29,7 @@ use jbig2_base::bitmap::Bitmap;
 use jbig2_base::bitmap::steps::Work;
 use jbig2_base::error::{DecodeError, Result};
 use jbig2_framing::reading::Reading;
-use jbig2_framing::segment::{Segment, SegmentType};
+use jbig2_framing::segment::{Segment, SegmentType, is_partial};
 use jbig2_region::decoded_region::DecodedRegion;
 use std::alloc::Allocator;
 use std::sync::ledger::Ledger;

@@ -11,8 +11,8 @@ ghost use Rattle.jbig2_page.specs.inner.KeptViews.{found_value};
 ghost use Rattle.jbig2_steps.specs.Work.{IsWithinLimit, Paid, budget};
 ghost use Rattle.jbig2_steps.specs.declared.prices.TheConstants as prices;
 
-use crate::drawing::dictionaries::{extension, keep_patterns, keep_symbols, keep_table, unlisted};
 use crate::drawing::passed_over::PassedOver;
+use crate::kept::dictionaries::{extension, keep_patterns, keep_symbols, keep_table, unlisted};
 use crate::kept::names::KeptNames;
 use crate::segment_price::pay_segment;
 use crate::workspace::Workspace;

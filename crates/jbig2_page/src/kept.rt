@@ -3,6 +3,7 @@ ghost use Rattle.std.specs.Prelude.{◌≡◌};
 ghost use Rattle.jbig2_page.specs.Names.{first_kept, kept_of};
 ghost use Rattle.jbig2_page.specs.inner.KeptViews.{found_value};
 
+pub(crate) mod dictionaries;
 pub(crate) mod names;
 pub(crate) mod referred;
 

@@ -46,7 +46,8 @@ use Rattle.jbig2_text.proofs.CausesOfRegions.{text_region_cause}
 use Rattle.jbig2_page.specs.Causes.{BreaksExtension, BreaksPatternReference, BreaksReferred, BreaksRefinement}
 use Rattle.jbig2_page.specs.Names.{Names, table_at, extension, kept_by, pattern_dictionary_at, referred_by, symbol_dictionary_at, with_code, with_patterns, with_symbols}
 use Rattle.jbig2_page.specs.Page.{Drawing, immediate, intermediate, segment_by, with_names}
-use Rattle.jbig2_page.specs.Regions.{generic_at, halftone_at, is_partial, patterns_for, refinement_at, text_at, with_whole_instances, with_whole_rows}
+use Rattle.jbig2_page.specs.Regions.{generic_at, halftone_at, patterns_for, refinement_at, text_at, with_whole_instances, with_whole_rows}
+use Rattle.jbig2_framing.specs.Segment.{is_partial}
 use Rattle.jbig2_page.proofs.SegmentCauses.{extension_cause, patterns_cause, referred_cause, refinement_cause}
 use Rattle.jbig2_page_forms.specs.SegmentErrors.{BreaksGeneric, BreaksHalftoneRegion, BreaksKept, BreaksPatternDictionary, BreaksSegment, BreaksSymbolDictionary, BreaksText}
 use Rattle.jbig2_page_forms.specs.SymbolErrors.{BreaksSymbols}

@@ -25,7 +25,8 @@ use Rattle.jbig2_text.specs.TextHeader.{text_header_at}
 use Rattle.jbig2_page.specs.Causes.{BreaksExtension, BreaksPatternReference, BreaksReferred, BreaksRefinement}
 use Rattle.jbig2_page.specs.Names.{Names, referred_by}
 use Rattle.jbig2_page.specs.Page.{Drawing}
-use Rattle.jbig2_page.specs.Regions.{is_partial, patterns_for, with_whole_instances, with_whole_rows}
+use Rattle.jbig2_page.specs.Regions.{patterns_for, with_whole_instances, with_whole_rows}
+use Rattle.jbig2_framing.specs.Segment.{is_partial}
 use Rattle.jbig2_page_forms.specs.SymbolErrors.{BreaksSymbols}
 
 module _ (strict : Bool) (own shared : Names) (p : SegmentView) (e : DecodeError) where

@@ -11,7 +11,8 @@ use Rattle.jbig2_region.specs.inner.GenericViews.{header_view}
 use Rattle.jbig2_base.specs.Counts.{Counts}
 use Rattle.jbig2_region.specs.inner.RegionStates.{HasDecoded, region_state}
 use Rattle.jbig2_region.specs.GenericSteps.{CountsCoded, CountsGeneric}
-use Rattle.jbig2_region.specs.Raster.{Coding, decoded_region, no_pixels, fresh_contexts, source}
+use Rattle.jbig2_region.specs.Raster.{Coding, decoded_region, no_pixels, source}
+use Rattle.jbig2_coder.specs.Coder.{fresh_contexts}
 use Rattle.jbig2_mmr.specs.T6.{mmr_rows}
 use Rattle.jbig2_region.specs.Templates.{context_bits}
 use Rattle.jbig2_region.specs.inner.PixelArrays.{pixels_view}

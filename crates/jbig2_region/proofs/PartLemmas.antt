@@ -15,7 +15,8 @@ use Rattle.jbig2_base.proofs.Prices.{most_words-few, written-counted}
 use Rattle.jbig2_coder.specs.Coder.{Coder, Context, Registers, initial_registers, is_within}
 use Rattle.jbig2_steps.specs.Work.{paid_words, price_of_bitmap, sum_of_counts, words_of_row}
 use Rattle.jbig2_steps.proofs.WorkLemmas.{room-paid}
-use Rattle.jbig2_region.specs.Raster.{Coding, Source, fresh_contexts, no_pixels, source}
+use Rattle.jbig2_region.specs.Raster.{Coding, Source, no_pixels, source}
+use Rattle.jbig2_coder.specs.Coder.{fresh_contexts}
 use Rattle.jbig2_region.specs.Refinement.{Reference, is_far, offset, reference_of, refined_decoded, refined_grid, refinement_coding}
 use Rattle.jbig2_region.specs.RefinementHeader.{IsRefinement, RefinementHeader}
 use Rattle.jbig2_region.specs.RefinementTemplates.{refinement_bits}

@@ -13,7 +13,8 @@ use Rattle.jbig2_region.specs.RefinementHeader.{RefinementHeader}
 use Rattle.jbig2_region.specs.Steps.{CountsDecided, CountsRefined, refinement_loads}
 use Rattle.jbig2_region.specs.RefinementTemplates.{refinement_bits}
 use Rattle.jbig2_region.specs.inner.RegionStates.{HasDecoded, region_state}
-use Rattle.jbig2_region.specs.Raster.{Coding, decoded_region, no_pixels, fresh_contexts, source}
+use Rattle.jbig2_region.specs.Raster.{Coding, decoded_region, no_pixels, source}
+use Rattle.jbig2_coder.specs.Coder.{fresh_contexts}
 use Rattle.jbig2_coder.specs.Coder.{Coder, Context, Registers, initial_registers}
 use Rattle.jbig2_base.specs.Results.{◌>>=◌, refuse_if}
 use Rattle.jbig2_base.specs.declared.error.DecodeError.{DecodeError}

@@ -9,7 +9,8 @@ use Rattle.jbig2_base.specs.declared.error.DecodeError.{DecodeError}
 use Rattle.jbig2_coder.specs.Coder.{Context, initial_registers}
 use Rattle.jbig2_mmr.specs.T6.{mmr_rows, grid_of_rows, rows_of}
 use Rattle.jbig2_region.specs.GenericHeader.{GenericHeader}
-use Rattle.jbig2_region.specs.Raster.{Coding, Region, so_far, decoded_region, no_pixels, fresh_contexts}
+use Rattle.jbig2_region.specs.Raster.{Coding, Region, so_far, decoded_region, no_pixels}
+use Rattle.jbig2_coder.specs.Coder.{fresh_contexts}
 use Rattle.jbig2_region.specs.RegionInfo.{at_location, PlacedRegion}
 use Rattle.jbig2_region.specs.Templates.{context_bits, row_context, template_pixels}
 use Rattle.jbig2_region.specs.declared.template.AdaptiveTemplatePixel.{AdaptiveTemplatePixel}

@@ -6,7 +6,8 @@ use Rattle.jbig2_base.specs.Counts.{Counts}
 use Rattle.jbig2_coder.specs.Coder.{initial_registers}
 use Rattle.jbig2_region.specs.Generic.{generic_coding}
 use Rattle.jbig2_region.specs.GenericHeader.{GenericHeader}
-use Rattle.jbig2_region.specs.Raster.{Coding, Source, no_pixels, fresh_contexts, source}
+use Rattle.jbig2_region.specs.Raster.{Coding, Source, no_pixels, source}
+use Rattle.jbig2_coder.specs.Coder.{fresh_contexts}
 use Rattle.jbig2_region.specs.Steps.{CountsDecided, CountsRegion}
 use Rattle.jbig2_region.specs.Templates.{adaptive_pixel_count, context_bits, is_nominal, template_pixels}
 use Rattle.jbig2_region.specs.declared.template.AdaptiveTemplatePixel.{AdaptiveTemplatePixel}

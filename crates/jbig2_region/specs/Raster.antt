@@ -1,7 +1,7 @@
 -- Regions that are decoded pixel by pixel, row by row from the top and each row from the left (T.88, 6.2.5 and 6.3.5).
 -- `decoded_region` takes a coding, a size, the coded bytes and the state before, and gives the state after.
-use Rattle.std.specs.Prelude.{ℕ, suc, zero, ◌+◌, ◌*◌, ◌/◌, ◌%◌, ◌^◌, ◌==◌, Bool, false, if◌then◌else◌, List, [], ◌∷◌}
-use Rattle.std.specs.Prelude.{◌++◌, length, replicate, slice_index_or, slice_set, Option, Some, None}
+use Rattle.std.specs.Prelude.{ℕ, suc, zero, ◌+◌, ◌*◌, ◌/◌, ◌%◌, ◌==◌, Bool, false, if◌then◌else◌, List, [], ◌∷◌}
+use Rattle.std.specs.Prelude.{◌++◌, length, slice_index_or, slice_set, Option, Some, None}
 use Rattle.jbig2_base.specs.Grid.{Grid, grid_of, differ}
 use Rattle.jbig2_coder.specs.Coder.{Context, Registers, fresh, decision}
 
@@ -86,6 +86,3 @@ module _ (coding : Coding) (w h : ℕ) (bytes : List ℕ) where
   -- the whole region; without columns or without rows it takes no decision (our own rule)
   unfoldable pub decoded_region : Region → Region
   decoded_region start = first_pixels start (w * h)
-
-abbrev pub fresh_contexts : ℕ → List Context
-fresh_contexts bits = replicate (2 ^ bits) fresh

@@ -11,7 +11,8 @@ use Rattle.jbig2_base.specs.declared.error.OverflowError.TheVariants.{ReferenceO
 use Rattle.jbig2_base.specs.declared.error.RegionError.TheVariants.{InvalidDimension}
 use Rattle.jbig2_coder.specs.Coder.{Context, initial_registers}
 use Rattle.jbig2_region.specs.Generic.{number_of, region_pixel}
-use Rattle.jbig2_region.specs.Raster.{Coding, Region, so_far, decoded_region, no_pixels, fresh_contexts}
+use Rattle.jbig2_region.specs.Raster.{Coding, Region, so_far, decoded_region, no_pixels}
+use Rattle.jbig2_coder.specs.Coder.{fresh_contexts}
 use Rattle.jbig2_region.specs.RefinementHeader.{RefinementHeader}
 use Rattle.jbig2_region.specs.RefinementTemplates.{at_xy, reference_pixels, refinement_row_context, region_pixels}
 use Rattle.jbig2_region.specs.RefinementTemplates.{refinement_bits}

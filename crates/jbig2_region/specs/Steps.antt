@@ -6,7 +6,8 @@ use Rattle.jbig2_base.specs.Counts.{Counts, KeepsLanes, bitmap_made}
 use Rattle.jbig2_base.specs.Grid.{bit_number, same_colour, Grid}
 use Rattle.jbig2_coder.specs.Coder.{fresh, all_quiet, initial_registers}
 use Rattle.jbig2_region.specs.Generic.{context_at, number_of, is_skipped}
-use Rattle.jbig2_region.specs.Raster.{Coding, Region, Source, source, so_far, at_pixel, fresh_contexts, no_pixels}
+use Rattle.jbig2_region.specs.Raster.{Coding, Region, Source, source, so_far, at_pixel, no_pixels}
+use Rattle.jbig2_coder.specs.Coder.{fresh_contexts}
 use Rattle.jbig2_region.specs.Raster.{row_decisions}
 use Rattle.jbig2_region.specs.Refinement.{reference_of, refinement_coding}
 use Rattle.jbig2_region.specs.RefinementHeader.{RefinementHeader}

@@ -12,7 +12,8 @@ use Rattle.jbig2_coder.specs.Coder.{initial_registers, is_within}
 use Rattle.jbig2_mmr.specs.T6.{rows_of}
 use Rattle.jbig2_region.specs.Generic.{generic_coding}
 use Rattle.jbig2_region.specs.GenericHeader.{GenericHeader}
-use Rattle.jbig2_region.specs.Raster.{Coding, Region, Source, first_pixels, fresh_contexts, no_pixels, source}
+use Rattle.jbig2_region.specs.Raster.{Coding, Region, Source, first_pixels, no_pixels, source}
+use Rattle.jbig2_coder.specs.Coder.{fresh_contexts}
 use Rattle.jbig2_region.specs.Refinement.{offset, reference_of, refined_grid, refinement_coding}
 use Rattle.jbig2_region.specs.RefinementHeader.{RefinementHeader}
 use Rattle.jbig2_region.specs.RefinementTemplates.{refinement_bits}

@@ -17,13 +17,14 @@ pub mod header;
 pub use crate::decoded_region::DecodedRegion;
 use crate::generic_coding::count_coded_rows;
 pub use crate::generic_coding::{count_regular_rows, decode_coded};
-use crate::raster::fresh_contexts;
 pub use crate::template::adaptive::parse_adaptive_template_pixels;
 pub use header::{GenericRegionHeader, parse};
 use jbig2_base::bitmap::Bitmap;
 use jbig2_base::bitmap::steps::Steps;
 use jbig2_base::error::Result;
-use jbig2_coder::arithmetic_decoder::{ArithmeticDecoder, ArithmeticDecoderContext};
+use jbig2_coder::arithmetic_decoder::{
+    ArithmeticDecoder, ArithmeticDecoderContext, fresh_contexts,
+};
 use jbig2_mmr::mmr;
 use std::alloc::Allocator;
 use std::sync::ledger::Ledger;

@@ -15,7 +15,6 @@ pub mod header;
 mod part;
 
 use crate::decoded_region::DecodedRegion;
-use crate::raster::fresh_contexts;
 pub use crate::refinement_coding::decode_bitmap;
 use crate::region_info::RegionSegmentInfo;
 pub use crate::template::adaptive::parse_template_pixels;
@@ -23,7 +22,9 @@ pub use header::{GenericRefinementRegionHeader, parse};
 use jbig2_base::bitmap::Bitmap;
 use jbig2_base::bitmap::steps::Steps;
 use jbig2_base::error::{OverflowError, RegionError, Result};
-use jbig2_coder::arithmetic_decoder::{ArithmeticDecoder, ArithmeticDecoderContext};
+use jbig2_coder::arithmetic_decoder::{
+    ArithmeticDecoder, ArithmeticDecoderContext, fresh_contexts,
+};
 pub use part::decode_part;
 use std::alloc::Allocator;
 use std::sync::ledger::Ledger;

@@ -1,10 +1,9 @@
 //! Decodes regions pixel by pixel (T.88, 6.2.5 and 6.3.5): the common part of generic regions and
 //! refinements.
-ghost use Rattle.std.specs.Prelude.{◌≡◌, ℕ, ◌+◌, ◌*◌, ◌^◌, ◌<◌, ◌≤◌, length, IfSome, false, Ok, Some, pos, ◌<ℤ◌};
-ghost use Rattle.jbig2_base.specs.Results.{Gives};
+ghost use Rattle.std.specs.Prelude.{◌≡◌, ℕ, ◌+◌, ◌*◌, ◌^◌, ◌<◌, ◌≤◌, length, IfSome, false, Some, pos, ◌<ℤ◌};
 ghost use Rattle.jbig2_base.specs.Grid.{pixel, bit_number, max_side};
 ghost use Rattle.jbig2_region.specs.Steps.{CountsDecided};
-ghost use Rattle.jbig2_region.specs.Raster.{Coding, fresh_contexts};
+ghost use Rattle.jbig2_region.specs.Raster.{Coding};
 ghost use Rattle.jbig2_region.specs.inner.RegionStates.{DecodesRegion, IsReady, counted_region, region_state, source_of};
 ghost use Rattle.jbig2_region.specs.inner.Stretches.{DecodesPixels};
 ghost use Rattle.jbig2_region.specs.WholeRows.{CountsWholeRows, whole_rows};
@@ -12,7 +11,6 @@ ghost use Rattle.jbig2_region.specs.WholeRows.{CountsWholeRows, whole_rows};
 use crate::row_decision::begin_row;
 use jbig2_base::bitmap::Bitmap;
 use jbig2_base::bitmap::steps::Steps;
-use jbig2_base::error::Result;
 use jbig2_coder::arithmetic_decoder::{ArithmeticDecoder, ArithmeticDecoderContext};
 use std::alloc::Allocator;
 use std::sync::ledger::Ledger;
@@ -228,17 +226,4 @@ pub fn count_whole_rows<C: PixelCoding, A: Allocator, L: Ledger>(
         }
     }
     bitmap.height()
-}
-
-/// Makes `contexts` 2 to the power of `bits` fresh contexts.
-pub fn fresh_contexts<A: Allocator>(
-    contexts: &mut Vec<ArithmeticDecoderContext, A>,
-    bits: u32,
-) -> Result<()>
-    requires { bits ≤ 16 }
-    ensures { Gives (λ _. contexts.new.items) result (Ok (fresh_contexts bits)) }
-{
-    contexts.clear();
-    contexts.resize(1 << bits, ArithmeticDecoderContext::new())?;
-    Ok(())
 }

@@ -12,7 +12,7 @@ use Rattle.jbig2_coder.specs.Coder.{Context}
 use Rattle.jbig2_coder.specs.PrefixCode.{Member, decoded_value, prefix_code}
 use Rattle.jbig2_coder.specs.Tables.{next_custom, standard, lines_a, lines_b, lines_c, lines_d, lines_e}
 use Rattle.jbig2_coder.specs.declared.integer_procedures.IntegerProcedure.{IntegerProcedure}
-use Rattle.jbig2_region.specs.Raster.{fresh_contexts}
+use Rattle.jbig2_coder.specs.Coder.{fresh_contexts}
 use Rattle.jbig2_region.specs.RefinementTemplates.{refinement_bits}
 use Rattle.jbig2_region.specs.Templates.{context_bits}
 use Rattle.jbig2_region.specs.declared.template.RefinementTemplate.{RefinementTemplate}

@@ -14,23 +14,17 @@ ghost use Rattle.jbig2_text.specs.inner.TextViews.{list_view, params_view};
 
 use crate::header::{SymbolDictionaryFlags, SymbolDictionaryHeader};
 use crate::input::SymbolInput;
+use crate::readings::SymbolSize;
 use jbig2_base::bitmap::steps::Work;
 use jbig2_base::bitmap::{Bitmap, CombinationOperator};
+use jbig2_base::code_length::code_length;
 use jbig2_base::error::{Result, SymbolError};
-use jbig2_base::search::code_length;
 use jbig2_coder::huffman_table::HuffmanTable;
 use jbig2_region::generic_refinement::ReferenceBitmap;
 use jbig2_text::header::{ReferenceCorner, TextRegionFlags};
 use jbig2_text::{ReadInstances, Refining, SymbolList, TextParams, draw_instances_by, new_symbol};
 use std::alloc::Allocator;
 use std::sync::ledger::Ledger;
-
-/// The size of a symbol.
-#[derive(Clone, Copy, Debug)]
-pub struct SymbolSize {
-    pub width: u32,
-    pub height: u32,
-}
 
 /// The number of bits of a symbol's id. It is enough for all symbols, also the new ones.
 pub fn id_bits(header: &SymbolDictionaryHeader<'_>, symbols: usize) -> u32

@@ -10,9 +10,8 @@ ghost use Rattle.jbig2_symbol.specs.HeightClasses.{drawn_class, empty_class, hei
 ghost use Rattle.jbig2_symbol.specs.inner.ClassWork.{HasRoomForSymbols, PaidButClass, PaysClass};
 ghost use Rattle.jbig2_symbol.specs.inner.SymbolViews.{concat, class_after, input_view, room_after};
 
-use crate::aggregates::SymbolSize;
 use crate::input::SymbolInput;
-use crate::readings::{HeightClass, ReadClasses, ReadSymbols};
+use crate::readings::{HeightClass, ReadClasses, ReadSymbols, SymbolSize};
 use crate::widths::{RunningWidths, next_size};
 use jbig2_base::bitmap::Bitmap;
 use jbig2_base::bitmap::steps::Work;

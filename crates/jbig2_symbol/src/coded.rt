@@ -13,15 +13,13 @@ ghost use Rattle.jbig2_symbol.specs.SymbolReading.{SymbolState, by_procedure};
 ghost use Rattle.jbig2_symbol.specs.inner.SymbolViews.{coded_view, input_view};
 ghost use Rattle.jbig2_base.specs.Causes.{HasCauseOrNoMemory};
 
-use crate::aggregates::{
-    SymbolSize, aggregate_params, instance_count, put_together, refine_alone, state_bits,
-};
+use crate::aggregates::{aggregate_params, instance_count, put_together, refine_alone, state_bits};
 use crate::classes::read_drawn_class;
 use crate::contexts::WorkingContexts;
 use crate::dictionary::RetainedContexts;
 use crate::header::SymbolDictionaryHeader;
 use crate::input::SymbolInput;
-use crate::readings::{HeightClass, ReadClasses, ReadSymbols};
+use crate::readings::{HeightClass, ReadClasses, ReadSymbols, SymbolSize};
 use jbig2_base::bitmap::Bitmap;
 use jbig2_base::bitmap::steps::Work;
 use jbig2_base::error::Result;

@@ -10,8 +10,7 @@ ghost use Rattle.jbig2_symbol.specs.declared.header.SymbolDictionaryFlags.{Symbo
 use crate::dictionary::RetainedContexts;
 use crate::header::{SymbolDictionaryFlags, SymbolDictionaryHeader};
 use jbig2_base::error::{Result, SymbolError};
-use jbig2_coder::arithmetic_decoder::ArithmeticDecoderContext;
-use jbig2_region::raster;
+use jbig2_coder::arithmetic_decoder::{self, ArithmeticDecoderContext};
 use jbig2_region::template::{RefinementTemplate, Template};
 use jbig2_text::Refining;
 use std::alloc::Allocator;
@@ -48,9 +47,9 @@ fn fresh_contexts<A: Allocator + Clone>(
         Gives (λ contexts. contexts_view contexts) result meant }
 {
     let mut generic_region = Vec::new(alloc.clone()?);
-    raster::fresh_contexts(&mut generic_region, flags.template.context_bits())?;
+    arithmetic_decoder::fresh_contexts(&mut generic_region, flags.template.context_bits())?;
     let mut refinement_region = Vec::new(alloc);
-    raster::fresh_contexts(
+    arithmetic_decoder::fresh_contexts(
         &mut refinement_region,
         flags.refinement_template.context_bits(),
     )?;

@@ -13,9 +13,9 @@ ghost use Rattle.jbig2_symbol.specs.inner.SymbolViews.{dictionary_view, input_vi
 ghost use Rattle.jbig2_symbol.specs.Symbols.{dictionary_from, dictionary_of, symbols_decoded, symbols_exported};
 
 pub mod aggregates;
-pub mod bitmaps;
 pub mod classes;
 pub mod coded;
+pub mod collective;
 pub mod contexts;
 pub mod dictionary;
 pub mod exports;

@@ -16,15 +16,13 @@ ghost use Rattle.jbig2_symbol.specs.inner.HeaderViews.{contexts_view};
 ghost use Rattle.jbig2_symbol.specs.inner.SymbolViews.{concat, input_view, prefixed_view, size_of_rows, tall_class};
 ghost use Rattle.jbig2_base.specs.Causes.{HasCauseOrNoMemory};
 
-use crate::aggregates::{
-    SymbolSize, aggregate_params, id_bits, instance_count, put_together, refine_alone,
-};
-use crate::bitmaps::{check_rows, cut_symbols, read_rows};
+use crate::aggregates::{aggregate_params, id_bits, instance_count, put_together, refine_alone};
 use crate::classes::{check_class, read_drawn_class};
+use crate::collective::{check_rows, cut_symbols, read_rows};
 use crate::contexts::WorkingContexts;
 use crate::dictionary::RetainedContexts;
 use crate::input::SymbolInput;
-use crate::readings::{HeightClass, ReadClasses, ReadSymbols};
+use crate::readings::{HeightClass, ReadClasses, ReadSymbols, SymbolSize};
 use crate::widths::read_widths;
 use jbig2_base::bitmap::steps::Work;
 use jbig2_base::bitmap::{Bitmap, MAX_DIMENSION};

@@ -8,13 +8,19 @@ ghost use Rattle.jbig2_symbol.specs.SymbolReading.{ClassReadings, SymbolReadings
 ghost use Rattle.jbig2_symbol.specs.inner.ClassWork.{HasRoomForSymbols, PaidButClass, PaysClass};
 ghost use Rattle.jbig2_symbol.specs.inner.SymbolViews.{concat, input_view};
 
-use crate::aggregates::SymbolSize;
 use crate::input::SymbolInput;
 use jbig2_base::bitmap::Bitmap;
 use jbig2_base::bitmap::steps::Work;
 use jbig2_base::error::Result;
 use std::alloc::Allocator;
 use std::sync::ledger::Ledger;
+
+/// The size of a symbol.
+#[derive(Clone, Copy, Debug)]
+pub struct SymbolSize {
+    pub width: u32,
+    pub height: u32,
+}
 
 /// A height class that is read next.
 #[derive(Clone, Copy, Debug)]

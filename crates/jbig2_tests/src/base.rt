@@ -1,20 +1,13 @@
-//! Tests bitmaps, and each public call of readers, fields, page information, codes, operators and segment types.
+//! Tests bitmaps, and each public call of readers, fields, codes and operators.
 mod bitmaps;
 
 use jbig2_base::bitmap::operator::CombinationOperator;
+use jbig2_base::code_length::code_length;
 use jbig2_base::error::{DecodeError, HuffmanError, ParseError};
 use jbig2_base::field::{
     bits_field, byte_field, bytes_field, i8_field, i32_field, u16_field, u32_field,
 };
 use jbig2_base::reader::Reader;
-use jbig2_base::search::code_length;
-use jbig2_framing::page_info::{PageInformation, parse_page_information};
-use jbig2_framing::segment::SegmentType;
-
-/// The information of a black page of 8 by 1, 600 by 300 pixels a metre, in stripes of at most 3 rows.
-const PAGE: [u8; 19] = [
-    0, 0, 0, 8, 0, 0, 0, 1, 0, 0, 2, 0x58, 0, 0, 1, 0x2C, 4, 0x80, 3,
-];
 
 #[test]
 fn bits_and_bytes_are_read(rt: HostRuntime) {
@@ -68,21 +61,7 @@ fn codes_have_the_fewest_bits(rt: HostRuntime) {
 }
 
 #[test]
-fn page_information_is_read(rt: HostRuntime) {
-    let Ok(information) = parse_page_information(&mut Reader::new(&PAGE)) else {
-        assert!(rt; false);
-        return;
-    };
-    assert!(rt; information.x_resolution == Some(600) && information.y_resolution == Some(300));
-    let striping = information.striping;
-    assert!(rt; striping.is_striped && striping.max_stripe_size == 3);
-}
-
-#[test]
-fn operators_and_types(rt: HostRuntime) {
+fn operators_have_numbers(rt: HostRuntime) {
     assert!(rt; CombinationOperator::from_value(3) == Ok(CombinationOperator::Xnor));
     assert!(rt; CombinationOperator::default() == CombinationOperator::Or);
-    assert!(rt; PageInformation::default().x_resolution == None);
-    assert!(rt; SegmentType::from_type_value(62) == SegmentType::Extension);
-    assert!(rt; SegmentType::from_type_value(63).is_reserved());
 }

@@ -10,6 +10,8 @@ mod base;
 #[cfg(test)]
 mod coder;
 #[cfg(test)]
+mod framing;
+#[cfg(test)]
 mod halftone;
 #[cfg(test)]
 mod mmr;

@@ -12,7 +12,7 @@ use jbig2_coder::huffman_table::{HuffmanTable, StandardHuffmanTables};
 use jbig2_coder::integer_procedures::IntegerProcedure;
 use jbig2_permit::Permit;
 use jbig2_region::template::{AdaptiveTemplatePixel, RefinementTemplate};
-use jbig2_text::bit_fields::value_field;
+use jbig2_text::code_field::value_field;
 use jbig2_text::header::ReferenceCorner;
 use jbig2_text::{
     CodedReadings, Refining, TextRegionHuffmanTables, decode, parse, pixels_of_template,

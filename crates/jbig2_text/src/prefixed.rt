@@ -4,7 +4,7 @@ ghost use Rattle.jbig2_base.specs.Results.{Returns};
 ghost use Rattle.jbig2_text.specs.TextCoding.{sized_bytes};
 ghost use Rattle.jbig2_text.specs.inner.TextViews.{prefixed_view};
 
-use crate::bit_fields::value_field;
+use crate::code_field::value_field;
 use crate::readings::ReadInstances;
 use crate::refining::Refining;
 use crate::tables::TextRegionHuffmanTables;

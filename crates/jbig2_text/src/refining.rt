@@ -14,9 +14,10 @@ ghost use Rattle.jbig2_text.specs.inner.FunctionResults.{fresh_refining, refinin
 use jbig2_base::bitmap::Bitmap;
 use jbig2_base::bitmap::steps::Work;
 use jbig2_base::error::Result;
-use jbig2_coder::arithmetic_decoder::{ArithmeticDecoder, ArithmeticDecoderContext};
+use jbig2_coder::arithmetic_decoder::{
+    ArithmeticDecoder, ArithmeticDecoderContext, fresh_contexts,
+};
 use jbig2_region::generic_refinement::{ReferenceBitmap, decode_bitmap};
-use jbig2_region::raster::fresh_contexts;
 use jbig2_region::template::{AdaptiveTemplatePixel, RefinementTemplate};
 use std::alloc::Allocator;
 use std::marker::Model;

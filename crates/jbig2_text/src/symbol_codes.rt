@@ -7,7 +7,7 @@ ghost use Rattle.jbig2_text.specs.SymbolCodes.{invalid_code, lines_from, short_l
 ghost use Rattle.jbig2_base.specs.Causes.{HasCauseOrNoMemory};
 ghost use Rattle.jbig2_text.specs.Causes.{BreaksSymbolCodes};
 
-use crate::bit_fields::value_field;
+use crate::code_field::value_field;
 use jbig2_base::error::{DecodeError, HuffmanError, Result};
 use jbig2_base::field::bits_field;
 use jbig2_base::reader::Reader;

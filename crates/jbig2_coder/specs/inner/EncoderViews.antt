@@ -11,9 +11,9 @@ writer_of bytes code = record { register = code.c; wait = code.ct; out = reverse
 abbrev pub encoder_state : List ℕ → Registers → EncoderState
 encoder_state bytes registers = record { range = registers.a; writer = writer_of bytes registers.code }
 
-abbrev pub shifted_registers : ℕ → Registers → Registers  -- A and C shifted by so many bits at once
-shifted_registers shifts r =
-    record { a = r.a * 2 ^ shifts; code = record { c = r.code.c * 2 ^ shifts; ct = r.code.ct - shifts } }
+abbrev pub shifted_registers : ℕ → Registers → Registers  -- A and C shifted by n bits at once
+shifted_registers n r =
+    record { a = r.a * 2 ^ n; code = record { c = r.code.c * 2 ^ n; ct = r.code.ct - n } }
 
 -- When the next byte goes out, C fits in it, with at most one carry.
 pub record HasRoom (a : ℕ) (code : CodeRegister) : Type 0 where

@@ -3,7 +3,8 @@ ghost use Rattle.std.specs.Prelude.{◌≡◌, ◌+◌, ◌*◌, ◌^◌, ◌≤
 ghost use Rattle.jbig2_base.specs.Results.{Gives, Leaves};
 ghost use Rattle.jbig2_base.specs.Counts.{KeepsLanes, bitmap_made, words_made};
 ghost use Rattle.jbig2_base.specs.Grid.{blank, max_side};
-ghost use Rattle.jbig2_region.specs.Raster.{fresh_contexts, no_pixels};
+ghost use Rattle.jbig2_region.specs.Raster.{no_pixels};
+ghost use Rattle.jbig2_coder.specs.Coder.{fresh_contexts};
 ghost use Rattle.jbig2_region.specs.Templates.{context_bits};
 ghost use Rattle.jbig2_region.specs.inner.RegionStates.{DecodesRegion, region_state};
 ghost use Rattle.jbig2_halftone.specs.GrayScale.{after_planes, gray_values, image_is_too_large, mmr_plane, planes_of};
@@ -16,10 +17,11 @@ use crate::gray_scale::lanes::add_plane;
 use jbig2_base::bitmap::Bitmap;
 use jbig2_base::bitmap::steps::Steps;
 use jbig2_base::error::Result;
-use jbig2_coder::arithmetic_decoder::{ArithmeticDecoder, ArithmeticDecoderContext};
+use jbig2_coder::arithmetic_decoder::{
+    ArithmeticDecoder, ArithmeticDecoderContext, fresh_contexts,
+};
 use jbig2_mmr::mmr;
 use jbig2_region::generic::decode_coded;
-use jbig2_region::raster::fresh_contexts;
 use jbig2_region::skipping::decode_skipping;
 use jbig2_region::template::GenericTemplatePixels;
 use std::alloc::Allocator;

@@ -3,7 +3,7 @@ ghost use Rattle.std.specs.Prelude.{◌≡◌, ◌≤◌, ◌-◌, ◌*◌, ◌^
 ghost use Rattle.jbig2_steps.specs.Work.{CountsWithin, price_of_bitmap};
 ghost use Rattle.jbig2_base.specs.Grid.{max_side};
 ghost use Rattle.jbig2_base.specs.Results.{Gives};
-ghost use Rattle.jbig2_region.specs.Raster.{fresh_contexts};
+ghost use Rattle.jbig2_coder.specs.Coder.{fresh_contexts};
 ghost use Rattle.jbig2_region.specs.Templates.{context_bits};
 ghost use Rattle.jbig2_halftone.specs.Steps.{price_of_image};
 ghost use Rattle.jbig2_halftone.specs.WholeCells.{whole_image_rows};
@@ -15,10 +15,11 @@ use crate::gray_scale::planes::{decode_plane, read_mmr_plane};
 use jbig2_base::bitmap::Bitmap;
 use jbig2_base::bitmap::steps::Steps;
 use jbig2_base::error::Result;
-use jbig2_coder::arithmetic_decoder::{ArithmeticDecoder, ArithmeticDecoderContext};
+use jbig2_coder::arithmetic_decoder::{
+    ArithmeticDecoder, ArithmeticDecoderContext, fresh_contexts,
+};
 use jbig2_mmr::mmr;
 use jbig2_region::generic::count_regular_rows;
-use jbig2_region::raster::fresh_contexts;
 use std::alloc::Allocator;
 use std::sync::ledger::Ledger;
 

@@ -2,7 +2,8 @@
 ghost use Rattle.std.specs.Prelude.{IfOk, ◌≡◌, Ok};
 ghost use Rattle.jbig2_base.specs.Results.{Gives};
 ghost use Rattle.jbig2_framing.specs.inner.SegmentViews.{segment_view};
-ghost use Rattle.jbig2_page.specs.Regions.{generic_at, is_partial, with_whole_rows};
+ghost use Rattle.jbig2_page.specs.Regions.{generic_at, with_whole_rows};
+ghost use Rattle.jbig2_framing.specs.Segment.{is_partial};
 ghost use Rattle.jbig2_page.specs.inner.ParsedRegions.{IsDecodable, DecodesTo};
 ghost use Rattle.jbig2_region.specs.GenericHeader.{IsParsed};
 ghost use Rattle.jbig2_region.specs.WholeRows.{whole_generic_rows};
@@ -10,13 +11,12 @@ ghost use Rattle.jbig2_region.specs.inner.GenericViews.{header_view};
 ghost use Rattle.jbig2_steps.specs.Work.{Paid};
 
 use crate::region::parsed_region::ParsedRegion;
-use crate::region::partial::is_partial;
 use crate::region::references::References;
 use crate::workspace::Workspace;
 use jbig2_base::bitmap::steps::Work;
 use jbig2_base::error::Result;
 use jbig2_base::reader::Reader;
-use jbig2_framing::segment::Segment;
+use jbig2_framing::segment::{Segment, is_partial};
 use jbig2_region::generic::{self, GenericRegionHeader};
 use std::alloc::Allocator;
 use std::sync::ledger::Ledger;

@@ -14,14 +14,14 @@ ghost use Rattle.jbig2_halftone.specs.inner.DictionaryViews.{dictionary_view};
 
 use crate::kept::names::Lookup;
 use crate::region::parsed_region::ParsedRegion;
-use crate::region::partial::{halftone_part, is_partial};
+use crate::region::partial::halftone_part;
 use crate::region::references::References;
 use crate::workspace::Workspace;
 use jbig2_base::bitmap::steps::Work;
+use jbig2_base::code_length::code_length;
 use jbig2_base::error::{DecodeError, Result, SegmentError};
 use jbig2_base::reader::Reader;
-use jbig2_base::search::code_length;
-use jbig2_framing::segment::Segment;
+use jbig2_framing::segment::{Segment, is_partial};
 use jbig2_halftone::halftone::{self, HalftoneRegionHeader};
 use jbig2_halftone::pattern::PatternDictionary;
 use std::alloc::Allocator;

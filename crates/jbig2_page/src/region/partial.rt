@@ -1,10 +1,8 @@
 //! Regions whose data is cut off: what is there of them is decoded (our own rule).
-ghost use Rattle.std.specs.Prelude.{◌≡◌, ◌≤◌, IfOk};
+ghost use Rattle.std.specs.Prelude.{◌≤◌, IfOk};
 ghost use Rattle.jbig2_base.specs.Grid.{max_side};
-ghost use Rattle.jbig2_framing.specs.inner.SegmentViews.{segment_view};
 ghost use Rattle.jbig2_halftone.specs.WholeCells.{halftone_part};
 ghost use Rattle.jbig2_halftone.specs.inner.DictionaryViews.{dictionary_view};
-ghost use Rattle.jbig2_page.specs.Regions.{is_partial};
 ghost use Rattle.jbig2_page.specs.inner.ParsedRegions.{DecodesTo, IsDecodable};
 ghost use Rattle.jbig2_region.specs.RefinementHeader.{IsRefinement};
 ghost use Rattle.jbig2_region.specs.WholeRows.{refined_part};
@@ -18,23 +16,12 @@ use crate::region::parsed_region::ParsedRegion;
 use crate::workspace::Workspace;
 use jbig2_base::bitmap::steps::Work;
 use jbig2_base::error::Result;
-use jbig2_framing::segment::Segment;
 use jbig2_halftone::halftone::{self, HalftoneRegionHeader};
 use jbig2_halftone::pattern::PatternDictionary;
 use jbig2_region::decoded_region::{DecodedRegion, check_sides};
 use jbig2_region::generic_refinement::{self, GenericRefinementRegionHeader};
 use std::alloc::Allocator;
 use std::sync::ledger::Ledger;
-
-/// Whether the data of a segment is cut off.
-pub(crate) fn is_partial<A: Allocator>(segment: &Segment<'_, A>) -> bool
-    ensures { result ≡ is_partial (segment_view segment.now) }
-{
-    match segment.header.data_length {
-        Some(length) => segment.bytes.len() < length as usize,
-        None => false,
-    }
-}
 
 /// Decodes what is there of a refinement. Takes the work of four bitmaps of its size.
 pub(crate) fn refined_part<'a, 'n, 'r, A: Allocator + Clone, L: Ledger>(

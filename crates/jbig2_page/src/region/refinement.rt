@@ -20,7 +20,7 @@ ghost use Rattle.jbig2_steps.specs.Work.{Paid, PaidBut, price_of_bitmap};
 
 use crate::kept::{Kept, first_under};
 use crate::region::parsed_region::ParsedRegion;
-use crate::region::partial::{is_partial, refined_part};
+use crate::region::partial::refined_part;
 use crate::region::references::References;
 use crate::workspace::Workspace;
 use jbig2_base::bitmap::Bitmap;
@@ -28,7 +28,7 @@ use jbig2_base::bitmap::part::Area;
 use jbig2_base::bitmap::steps::Work;
 use jbig2_base::error::{OverflowError, Result, SegmentError};
 use jbig2_base::reader::Reader;
-use jbig2_framing::segment::Segment;
+use jbig2_framing::segment::{Segment, is_partial};
 use jbig2_region::decoded_region::DecodedRegion;
 use jbig2_region::generic_refinement::{self, GenericRefinementRegionHeader};
 use jbig2_region::region_info::RegionSegmentInfo;

@@ -9,13 +9,12 @@ ghost use Rattle.jbig2_text.specs.inner.TextViews.{header_view};
 
 use crate::kept::referred::{ReferredSegments, gather_referred};
 use crate::region::parsed_region::ParsedRegion;
-use crate::region::partial::is_partial;
 use crate::region::references::References;
 use crate::workspace::Workspace;
 use jbig2_base::bitmap::steps::Work;
 use jbig2_base::error::Result;
 use jbig2_base::reader::Reader;
-use jbig2_framing::segment::Segment;
+use jbig2_framing::segment::{Segment, is_partial};
 use jbig2_text::header::TextRegionHeader;
 use std::alloc::Allocator;
 use std::sync::ledger::Ledger;

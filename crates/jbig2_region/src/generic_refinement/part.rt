@@ -11,13 +11,14 @@ ghost use Rattle.jbig2_region.specs.inner.RegionViews.{region_view};
 use crate::decoded_region::DecodedRegion;
 use crate::generic_refinement::header::GenericRefinementRegionHeader;
 use crate::generic_refinement::{ReferenceBitmap, decode, offset};
-use crate::raster::fresh_contexts;
 use crate::refinement_coding::count_refined_rows;
 use jbig2_base::bitmap::Bitmap;
 use jbig2_base::bitmap::operator::CombinationOperator;
 use jbig2_base::bitmap::steps::Steps;
 use jbig2_base::error::Result;
-use jbig2_coder::arithmetic_decoder::{ArithmeticDecoder, ArithmeticDecoderContext};
+use jbig2_coder::arithmetic_decoder::{
+    ArithmeticDecoder, ArithmeticDecoderContext, fresh_contexts,
+};
 use std::alloc::Allocator;
 use std::sync::ledger::Ledger;
 

@@ -8,11 +8,12 @@ use jbig2_base::bitmap::operator::CombinationOperator;
 use jbig2_base::bitmap::steps::Steps;
 use jbig2_base::error::{DecodeError, Result};
 use jbig2_base::reader::Reader;
-use jbig2_coder::arithmetic_decoder::{ArithmeticDecoder, ArithmeticDecoderContext};
+use jbig2_coder::arithmetic_decoder::{
+    ArithmeticDecoder, ArithmeticDecoderContext, fresh_contexts,
+};
 use jbig2_permit::Permit;
 use jbig2_region::generic::DecodedRegion;
 use jbig2_region::generic_refinement::{ReferenceBitmap, decode, decode_bitmap, parse};
-use jbig2_region::raster::fresh_contexts;
 use jbig2_region::template::{AdaptiveTemplatePixel, RefinementTemplate};
 use std::alloc::Global;
 use std::marker::Brand;

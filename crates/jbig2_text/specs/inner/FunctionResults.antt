@@ -11,7 +11,7 @@ use Rattle.jbig2_base.specs.declared.error.SymbolError.TheVariants.{TooManyInsta
 use Rattle.jbig2_coder.specs.Coder.{Context}
 use Rattle.jbig2_coder.specs.PrefixCode.{Member, prefix_code}
 use Rattle.jbig2_coder.specs.Tables.{next_custom, standard, lines_a, lines_n, lines_o}
-use Rattle.jbig2_region.specs.Raster.{fresh_contexts}
+use Rattle.jbig2_coder.specs.Coder.{fresh_contexts}
 use Rattle.jbig2_region.specs.RefinementTemplates.{refinement_bits, refinement_pixels_at, refinement_template_of}
 use Rattle.jbig2_region.specs.declared.template.AdaptiveTemplatePixel.{AdaptiveTemplatePixel}
 use Rattle.jbig2_region.specs.declared.template.RefinementTemplate.{RefinementTemplate}

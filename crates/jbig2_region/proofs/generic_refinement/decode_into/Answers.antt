@@ -7,7 +7,7 @@ use Rattle.jbig2_region.specs.Refinement.{refined_region}
 use Rattle.jbig2_region.specs.RefinementTemplates.{refinement_bits}
 use Rattle.jbig2_region.specs.inner.RegionViews.{region_view}
 use Rattle.jbig2_region.specs.inner.RegionStates.{HasDecoded, region_state}
-use Rattle.jbig2_region.specs.Raster.{fresh_contexts}
+use Rattle.jbig2_coder.specs.Coder.{fresh_contexts}
 use Rattle.jbig2_base.proofs.Causes.{same-ok}
 use Rattle.jbig2_region.proofs.Prices.{decided-paid, refinement_loads-few}
 use Rattle.jbig2_region.proofs.GenericLemmas.{whole-slice}

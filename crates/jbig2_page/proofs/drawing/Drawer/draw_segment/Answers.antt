@@ -5,7 +5,7 @@ use Rattle.jbig2_framing.specs.inner.SegmentViews.{segment_view}
 use Rattle.jbig2_framing.specs.declared.reading.Reading.{Reading}
 use Rattle.jbig2_page.specs.Names.{Names}
 use Rattle.jbig2_page.specs.Page.{Drawing, segment_by, segment_on}
-use Rattle.jbig2_page.specs.Regions.{is_partial}
+use Rattle.jbig2_framing.specs.Segment.{is_partial}
 use Rattle.jbig2_page.proofs.AgreeingPages.{segment-any}
 use Rattle.jbig2_page.proofs.drawing.Drawer.draw_segment.Goals as goal
 

@@ -10,7 +10,7 @@ ghost use Rattle.jbig2_steps.specs.Work.{Paid, price_of_bitmap};
 ghost use Rattle.jbig2_symbol.specs.SymbolBitmaps.{symbols_cut, raw_pixel, raw_stride, raw_rows, mmr_bitmap, rows_of_size};
 ghost use Rattle.jbig2_symbol.specs.inner.SymbolViews.{bytes_of_rows, symbols_after, with_no_value};
 
-use crate::aggregates::SymbolSize;
+use crate::readings::SymbolSize;
 use jbig2_base::bitmap::part::Area;
 use jbig2_base::bitmap::steps::{Steps, Work};
 use jbig2_base::bitmap::{Bitmap, MAX_AREA};

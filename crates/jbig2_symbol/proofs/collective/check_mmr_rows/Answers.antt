@@ -2,8 +2,8 @@ use Rattle.std.proofs.Common.{◌<◌, ◌/◌, ◌+◌, inl, inr, false, arith,
 use Rattle.std.proofs.lemmas.Bool.{ltb-false, ltb-true}
 use Rattle.jbig2_base.specs.Grid.{blank}
 use Rattle.jbig2_symbol.proofs.TallClasses.{mmr-passed, mmr-refused}
-use Rattle.jbig2_symbol.proofs.bitmaps.check_mmr_rows.Goals as goal
-use Rattle.jbig2_symbol.proofs.bitmaps.check_mmr_rows.Goals.{then-strict, else-strict, else-is_checked-via-then-is_checked+else-div_ceil-size, else-is_checked-via-else-is_checked}
+use Rattle.jbig2_symbol.proofs.collective.check_mmr_rows.Goals as goal
+use Rattle.jbig2_symbol.proofs.collective.check_mmr_rows.Goals.{then-strict, else-strict, else-is_checked-via-then-is_checked+else-div_ceil-size, else-is_checked-via-else-is_checked}
 
 pub returns-then-is_checked-2-clause-value : goal.returns-then-is_checked-2-clause-value
 returns-then-is_checked-2-clause-value g c =

@@ -1,6 +1,6 @@
 use Rattle.std.proofs.Common.{arith, rules}
 use Rattle.jbig2_symbol.proofs.TallClasses.{raw-passed, raw-refused}
-use Rattle.jbig2_symbol.proofs.bitmaps.check_rows.Goals as goal
+use Rattle.jbig2_symbol.proofs.collective.check_rows.Goals as goal
 
 pub returns-in_err-raw_bytes-clause-value : goal.returns-in_err-raw_bytes-clause-value
 returns-in_err-raw_bytes-clause-value g c =

@@ -2,7 +2,7 @@ use Rattle.std.proofs.Common.{◌≡◌, ◌+◌, ◌*◌, ◌/◌, ◌≤◌}
 use Rattle.jbig2_base.specs.inner.GridsBefore.{grid_before}
 use Rattle.jbig2_symbol.specs.SymbolBitmaps.{raw_pixel, raw_stride}
 use Rattle.jbig2_steps.specs.Work.{budget}
-use Rattle.jbig2_symbol.proofs.bitmaps.read_raw_rows.Given as goal
+use Rattle.jbig2_symbol.proofs.collective.read_raw_rows.Given as goal
 
 abbrev pub invariant-loop-y : goal.invariant-loop-y
 invariant-loop-y g l = record {

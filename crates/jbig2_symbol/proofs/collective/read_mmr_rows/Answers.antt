@@ -5,7 +5,7 @@ use Rattle.jbig2_mmr.proofs.Prices.{decode-paid}
 use Rattle.jbig2_base.proofs.MadeLemmas.{words-same}
 use Rattle.jbig2_text.proofs.PayingLemmas.{beside-worth}
 use Rattle.jbig2_symbol.proofs.PayingLemmas.{bytes-many, raw-paid, wide-worth}
-use Rattle.jbig2_symbol.proofs.bitmaps.read_mmr_rows.Goals as goal
+use Rattle.jbig2_symbol.proofs.collective.read_mmr_rows.Goals as goal
 
 pub returns-in_err-decode-clause-paid : goal.returns-in_err-decode-clause-paid
 returns-in_err-decode-clause-paid g c =

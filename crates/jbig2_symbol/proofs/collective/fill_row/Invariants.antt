@@ -2,7 +2,7 @@ use Rattle.std.proofs.Common.{◌≡◌, ◌*◌, min}
 use Rattle.jbig2_base.specs.Counts.{WritesWithin}
 use Rattle.jbig2_base.specs.inner.GridsBefore.{grid_before}
 use Rattle.jbig2_symbol.specs.SymbolBitmaps.{raw_pixel, raw_stride}
-use Rattle.jbig2_symbol.proofs.bitmaps.fill_row.Given as goal
+use Rattle.jbig2_symbol.proofs.collective.fill_row.Given as goal
 
 abbrev pub invariant-loop-index : goal.invariant-loop-index
 invariant-loop-index g l = record {

@@ -4,7 +4,7 @@ use Rattle.jbig2_symbol.specs.SymbolBitmaps.{symbol_cut, symbols_cut}
 use Rattle.jbig2_symbol.specs.inner.SymbolViews.{symbols_after}
 use Rattle.jbig2_symbol.proofs.PayingLemmas.{copy-paid, unmade-paid}
 use Rattle.jbig2_symbol.proofs.CutLemmas.{cut-all, cut-fault, cut-next, sum-next}
-use Rattle.jbig2_symbol.proofs.bitmaps.cut_symbols.Goals as goal
+use Rattle.jbig2_symbol.proofs.collective.cut_symbols.Goals as goal
 
 pub returns-clause-value : goal.returns-clause-value
 returns-clause-value g c = cut-all c.args.collective.now c.args.height c.loop-width.left c.args.widths.now c.loop-width.width-index c.loop-width.symbols.items _ (omega arith) c.loop-width.invariant.cut

@@ -5,7 +5,7 @@ use Rattle.jbig2_steps.specs.Work.{budget}
 use Rattle.jbig2_symbol.proofs.CutLemmas.{raw-made, raw-none, wide-blank}
 use Rattle.jbig2_base.proofs.FillLemmas.{blank-filled}
 use Rattle.jbig2_symbol.proofs.PayingLemmas.{empty-worth, raw-paid, row-worth, wide-worth}
-use Rattle.jbig2_symbol.proofs.bitmaps.read_raw_rows.Goals as goal
+use Rattle.jbig2_symbol.proofs.collective.read_raw_rows.Goals as goal
 
 pub returns-then-width-eq0-clause-value : goal.returns-then-width-eq0-clause-value
 returns-then-width-eq0-clause-value g c = raw-none c.args.width c.args.height c.in_ok-empty.empty c.args.reader.now.bytes c.in_ok-bytes.bytes.now c.raw_bytes.new.reader.bytes c.if-width-eq0.true c.in_ok-bytes.ensures.value c.in_ok-empty.ensures.value

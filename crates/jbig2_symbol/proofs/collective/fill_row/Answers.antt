@@ -3,7 +3,7 @@ use Rattle.jbig2_base.specs.Counts.{WritesWithin}
 use Rattle.jbig2_base.proofs.FillLemmas.{row-filled}
 use Rattle.jbig2_base.proofs.Prices.{written-none, written-word}
 use Rattle.jbig2_symbol.proofs.CutLemmas.{uncoded}
-use Rattle.jbig2_symbol.proofs.bitmaps.fill_row.Goals as goal
+use Rattle.jbig2_symbol.proofs.collective.fill_row.Goals as goal
 
 pub loop-index-init : goal.loop-index-init
 loop-index-init g c =

@@ -3,7 +3,7 @@ use Rattle.std.specs.Prelude.{sum}
 use Rattle.jbig2_symbol.specs.SymbolBitmaps.{symbols_cut}
 use Rattle.jbig2_symbol.specs.inner.SymbolViews.{symbols_after}
 use Rattle.jbig2_steps.specs.Work.{budget}
-use Rattle.jbig2_symbol.proofs.bitmaps.cut_symbols.Given as goal
+use Rattle.jbig2_symbol.proofs.collective.cut_symbols.Given as goal
 
 abbrev pub invariant-loop-width : goal.invariant-loop-width
 invariant-loop-width g l = record {
