@@ -7,11 +7,11 @@ ghost use Rattle.jbig2_page.specs.Image.{packed_of};
 
 use crate::counted::StepCount;
 use crate::drawn_page::DrawnPage;
-use jbig2_base::bitmap::steps::Work;
 use jbig2_base::error::Result;
 use jbig2_page::drawing::canvas::Canvas;
 use jbig2_page::drawing::passed_over::PassedOver;
 use jbig2_permit::Permit;
+use jbig2_steps::Work;
 use std::alloc::Allocator;
 use std::marker::Model;
 use std::sync::ledger::{Blank, Ledger};

@@ -4,7 +4,7 @@ ghost use Rattle.std.specs.Prelude.{◌≡◌, ◌+◌, ℕ};
 ghost use Rattle.jbig2_steps.specs.Work.{sum_of_counts};
 ghost use base.Fml.{ftrue};
 
-use jbig2_base::bitmap::steps::Steps;
+use jbig2_steps::Steps;
 use std::marker::{Model, PhantomData};
 use std::snapshot::Snapshot;
 use std::sync::ledger::Ledger;

@@ -1,9 +1,9 @@
 //! `DrawnPage`: lends a page that was drawn as packed rows.
 ghost use Rattle.std.specs.Prelude.{◌≡◌, ◌+◌, ◌≤◌, [], drop, length, take};
 
-use jbig2_base::bitmap::steps::Steps;
 use jbig2_page::drawing::drawn_rows::DrawnRows;
 use jbig2_permit::Permit;
+use jbig2_steps::Steps;
 use std::alloc::Allocator;
 use std::marker::{Brand, Model};
 use std::sync::ledger::{Blank, Ledger};

@@ -5,7 +5,7 @@ ghost use Rattle.hayro_jbig2.specs.WorkLimit.{after_call, units_left, limit_of};
 
 use crate::context::work_within;
 use crate::counted::StepCount;
-use jbig2_base::bitmap::steps::Work;
+use jbig2_steps::Work;
 use std::marker::Model;
 use std::sync::ledger::{Blank, Ledger};
 

@@ -14,16 +14,15 @@ mod combine;
 pub mod operator;
 pub mod part;
 mod rows;
-pub mod steps;
 
 use crate::error::{OverflowError, Result};
+pub use jbig2_steps::Steps;
 pub use operator::CombinationOperator;
 use rows::PackedRows;
 pub use rows::words::Words;
 use std::alloc::Allocator;
 use std::marker::Model;
 use std::sync::ledger::Ledger;
-pub use steps::Steps;
 
 /// The longest side, in pixels, of a bitmap that is asked for by its sides (our own rule).
 pub const MAX_DIMENSION: u32 = 65535;

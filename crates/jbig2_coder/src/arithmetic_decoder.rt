@@ -9,8 +9,8 @@ ghost use Rattle.jbig2_coder.specs.inner.States.{Does};
 
 use crate::arithmetic_decoder::qe_table::{State, state_at};
 use crate::arithmetic_decoder::registers::{BufferedRegisters, CodeBuffer, byte_at, byte_in};
-use jbig2_base::bitmap::steps::Steps;
 use jbig2_base::error::Result;
+use jbig2_steps::Steps;
 use std::alloc::Allocator;
 use std::marker::Model;
 use std::sync::ledger::Ledger;

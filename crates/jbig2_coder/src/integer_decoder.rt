@@ -9,8 +9,8 @@ ghost use Rattle.jbig2_coder.specs.inner.Prefixes.{prefix, range_of};
 ghost use Rattle.jbig2_coder.specs.inner.IntegerStates.{ReadsOn, IfRead, prev_next};
 
 use crate::arithmetic_decoder::{ArithmeticDecoder, ArithmeticDecoderContext};
-use jbig2_base::bitmap::steps::Steps;
 use jbig2_base::error::Result;
+use jbig2_steps::Steps;
 use std::alloc::Allocator;
 use std::marker::Model;
 use std::sync::ledger::Ledger;

@@ -6,8 +6,8 @@ ghost use Rattle.jbig2_coder.specs.Integers.{integer_by, asked_integer, fresh_pr
 
 use crate::arithmetic_decoder::ArithmeticDecoder;
 use crate::integer_decoder::IntegerDecoder;
-use jbig2_base::bitmap::steps::Steps;
 use jbig2_base::error::Result;
+use jbig2_steps::Steps;
 use std::alloc::Allocator;
 use std::marker::Model;
 use std::sync::ledger::Ledger;

@@ -8,8 +8,8 @@ ghost use Rattle.jbig2_coder.specs.inner.EncoderViews.{all_fresh};
 
 use crate::arithmetic_decoder::{ArithmeticDecoder, ArithmeticDecoderContext};
 use crate::mq::encoder::ArithmeticEncoder;
-use jbig2_base::bitmap::steps::Steps;
 use jbig2_base::error::Result;
+use jbig2_steps::Steps;
 use std::alloc::Allocator;
 use std::marker::Model;
 use std::sync::ledger::Ledger;

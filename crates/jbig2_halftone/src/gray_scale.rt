@@ -13,11 +13,11 @@ mod lanes;
 mod planes;
 pub(crate) mod whole_rows;
 
-use jbig2_base::bitmap::steps::Steps;
 use jbig2_base::bitmap::{Bitmap, MAX_DIMENSION};
 use jbig2_base::error::{OverflowError, Result};
 use jbig2_coder::arithmetic_decoder::ArithmeticDecoderContext;
 use jbig2_region::template::Template;
+use jbig2_steps::Steps;
 use planes::add_planes;
 use std::alloc::Allocator;
 use std::sync::ledger::Ledger;

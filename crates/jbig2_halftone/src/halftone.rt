@@ -31,11 +31,11 @@ use cells::{CellPlace, first_place, lies_outside, next_in_row, next_row, whole_p
 pub use header::{HalftoneRegionHeader, parse};
 use jbig2_base::bitmap::Bitmap;
 use jbig2_base::bitmap::operator::CombinationOperator;
-use jbig2_base::bitmap::steps::Steps;
 use jbig2_base::code_length::code_length;
 use jbig2_base::error::{DecodeError, RegionError, Result};
 use jbig2_coder::arithmetic_decoder::ArithmeticDecoderContext;
 use jbig2_region::decoded_region::DecodedRegion;
+use jbig2_steps::Steps;
 pub use part::decode_part;
 use std::alloc::Allocator;
 use std::sync::ledger::Ledger;

@@ -24,7 +24,6 @@ mod dictionary;
 pub use dictionary::PatternDictionary;
 use jbig2_base::bitmap::operator::CombinationOperator;
 use jbig2_base::bitmap::part::Area;
-use jbig2_base::bitmap::steps::Steps;
 use jbig2_base::bitmap::{Bitmap, MAX_DIMENSION};
 use jbig2_base::error::{OverflowError, ParseError, Result};
 use jbig2_base::field::{byte_field, u32_field};
@@ -33,6 +32,7 @@ use jbig2_coder::arithmetic_decoder::ArithmeticDecoderContext;
 use jbig2_region::generic::{self, GenericRegionHeader};
 use jbig2_region::region_info::RegionSegmentInfo;
 use jbig2_region::template::{AdaptiveTemplatePixel, GenericTemplatePixels, Template};
+use jbig2_steps::Steps;
 use std::alloc::Allocator;
 use std::sync::ledger::Ledger;
 

@@ -17,8 +17,8 @@ mod span;
 use crate::mmr::bits::CodeReader;
 use crate::mmr::row::read_row;
 use jbig2_base::bitmap::Bitmap;
-use jbig2_base::bitmap::steps::Steps;
 use jbig2_base::error::{RegionError, Result};
+use jbig2_steps::Steps;
 use std::alloc::Allocator;
 use std::sync::ledger::Ledger;
 

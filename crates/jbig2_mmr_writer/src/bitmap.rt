@@ -8,7 +8,7 @@ ghost use Rattle.jbig2_mmr_writer.specs.Written.{ReadsBack};
 use crate::bits::BitWriter;
 use crate::row::push_row;
 use jbig2_base::bitmap::Bitmap;
-use jbig2_base::bitmap::steps::Steps;
+use jbig2_steps::Steps;
 use std::alloc::{AllocError, Allocator};
 use std::sync::ledger::Ledger;
 

@@ -6,7 +6,7 @@ ghost use Rattle.jbig2_mmr.specs.inner.T6Reading.{pixels_of_row};
 
 use jbig2_base::bitmap::Bitmap;
 use jbig2_base::bitmap::colour::find_colour;
-use jbig2_base::bitmap::steps::Steps;
+use jbig2_steps::Steps;
 use std::alloc::Allocator;
 use std::sync::ledger::Ledger;
 

@@ -11,7 +11,7 @@ use crate::changes::{Place, find_b1, find_b2};
 use crate::codes::{HORIZONTAL, PASS, push_run, vertical_entry};
 use jbig2_base::bitmap::Bitmap;
 use jbig2_base::bitmap::colour::find_colour;
-use jbig2_base::bitmap::steps::Steps;
+use jbig2_steps::Steps;
 use std::alloc::{AllocError, Allocator};
 use std::sync::ledger::Ledger;
 

@@ -26,11 +26,11 @@ use crate::region::references::References;
 use crate::region::{RegionKind, parse_region};
 use crate::segment_price::pay_segment;
 use jbig2_base::bitmap::Bitmap;
-use jbig2_base::bitmap::steps::Work;
 use jbig2_base::error::{DecodeError, Result};
 use jbig2_framing::reading::Reading;
 use jbig2_framing::segment::{Segment, SegmentType, is_partial};
 use jbig2_region::decoded_region::DecodedRegion;
+use jbig2_steps::Work;
 use std::alloc::Allocator;
 use std::sync::ledger::Ledger;
 

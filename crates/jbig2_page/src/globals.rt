@@ -16,13 +16,13 @@ use crate::kept::dictionaries::{extension, keep_patterns, keep_symbols, keep_tab
 use crate::kept::names::KeptNames;
 use crate::segment_price::pay_segment;
 use crate::workspace::Workspace;
-use jbig2_base::bitmap::steps::Work;
 use jbig2_base::error::{DecodeError, Result};
 use jbig2_framing::cut_off::CutOff;
 use jbig2_framing::file::parse_segments_sequential;
 use jbig2_framing::reading::Reading;
 use jbig2_framing::segment::{Segment, SegmentType};
 use jbig2_framing::sort::sort_segments;
+use jbig2_steps::Work;
 use std::alloc::Allocator;
 use std::marker::Model;
 use std::sync::ledger::Ledger;

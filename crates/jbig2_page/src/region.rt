@@ -22,9 +22,9 @@ use crate::region::references::References;
 use crate::region::refinement::parse_refinement;
 use crate::region::text::parse_text;
 use crate::workspace::Workspace;
-use jbig2_base::bitmap::steps::Work;
 use jbig2_base::error::Result;
 use jbig2_framing::segment::{Segment, SegmentType};
+use jbig2_steps::Work;
 use std::alloc::Allocator;
 use std::sync::ledger::Ledger;
 

@@ -6,10 +6,9 @@ ghost use Rattle.jbig2_page.specs.Prices.{capped, price_of_segment, price_of_typ
 ghost use Rattle.jbig2_steps.specs.Work.{Paid, budget};
 ghost use Rattle.jbig2_steps.specs.declared.prices.TheConstants as prices;
 
-use jbig2_base::bitmap::steps::Work;
 use jbig2_base::error::Result;
 use jbig2_framing::segment::{Segment, SegmentType};
-use jbig2_steps::prices;
+use jbig2_steps::{Work, prices};
 use std::alloc::Allocator;
 use std::sync::ledger::Ledger;
 

@@ -20,12 +20,12 @@ pub use crate::generic_coding::{count_regular_rows, decode_coded};
 pub use crate::template::adaptive::parse_adaptive_template_pixels;
 pub use header::{GenericRegionHeader, parse};
 use jbig2_base::bitmap::Bitmap;
-use jbig2_base::bitmap::steps::Steps;
 use jbig2_base::error::Result;
 use jbig2_coder::arithmetic_decoder::{
     ArithmeticDecoder, ArithmeticDecoderContext, fresh_contexts,
 };
 use jbig2_mmr::mmr;
+use jbig2_steps::Steps;
 use std::alloc::Allocator;
 use std::sync::ledger::Ledger;
 

@@ -27,8 +27,8 @@ use crate::generic_kernel::windows::pixels_above;
 use crate::row_decision::begin_row;
 use crate::template::neighbours::Layout;
 use jbig2_base::bitmap::Bitmap;
-use jbig2_base::bitmap::steps::Steps;
 use jbig2_coder::arithmetic_decoder::{ArithmeticDecoder, ArithmeticDecoderContext};
+use jbig2_steps::Steps;
 use std::alloc::Allocator;
 use std::sync::ledger::Ledger;
 

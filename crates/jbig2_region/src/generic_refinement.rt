@@ -20,11 +20,11 @@ use crate::region_info::RegionSegmentInfo;
 pub use crate::template::adaptive::parse_template_pixels;
 pub use header::{GenericRefinementRegionHeader, parse};
 use jbig2_base::bitmap::Bitmap;
-use jbig2_base::bitmap::steps::Steps;
 use jbig2_base::error::{OverflowError, RegionError, Result};
 use jbig2_coder::arithmetic_decoder::{
     ArithmeticDecoder, ArithmeticDecoderContext, fresh_contexts,
 };
+use jbig2_steps::Steps;
 pub use part::decode_part;
 use std::alloc::Allocator;
 use std::sync::ledger::Ledger;

@@ -10,8 +10,8 @@ ghost use Rattle.jbig2_region.specs.WholeRows.{CountsWholeRows, whole_rows};
 
 use crate::row_decision::begin_row;
 use jbig2_base::bitmap::Bitmap;
-use jbig2_base::bitmap::steps::Steps;
 use jbig2_coder::arithmetic_decoder::{ArithmeticDecoder, ArithmeticDecoderContext};
+use jbig2_steps::Steps;
 use std::alloc::Allocator;
 use std::sync::ledger::Ledger;
 

@@ -26,8 +26,8 @@ use crate::row_decision::begin_row;
 use crate::template::RefinementTemplate;
 use crate::template::refinement::typical_context;
 use jbig2_base::bitmap::Bitmap;
-use jbig2_base::bitmap::steps::Steps;
 use jbig2_coder::arithmetic_decoder::{ArithmeticDecoder, ArithmeticDecoderContext};
+use jbig2_steps::Steps;
 use std::alloc::Allocator;
 use std::sync::ledger::Ledger;
 

@@ -4,8 +4,8 @@ ghost use Rattle.jbig2_base.specs.Grid.{Grid};
 ghost use Rattle.jbig2_region.specs.Raster.{Region, row_decisions};
 ghost use Rattle.jbig2_region.specs.inner.RegionStates.{HasDecoded, BeginsRow, region_state};
 
-use jbig2_base::bitmap::steps::Steps;
 use jbig2_coder::arithmetic_decoder::{ArithmeticDecoder, ArithmeticDecoderContext};
+use jbig2_steps::Steps;
 use std::sync::ledger::Ledger;
 
 /// Decodes the decision that begins a row, in the context with this number. Returns whether the row

@@ -17,8 +17,8 @@ use crate::template::layouts::layout_of;
 use crate::template::pixels::TemplatePixels;
 use crate::template::{AdaptiveTemplatePixel, Template};
 use jbig2_base::bitmap::Bitmap;
-use jbig2_base::bitmap::steps::Steps;
 use jbig2_coder::arithmetic_decoder::{ArithmeticDecoder, ArithmeticDecoderContext};
+use jbig2_steps::Steps;
 use std::alloc::Allocator;
 use std::sync::ledger::Ledger;
 

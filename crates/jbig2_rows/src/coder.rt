@@ -4,7 +4,7 @@ ghost use Rattle.std.specs.Prelude.{◌≡◌};
 use crate::spelling::bytes_of;
 use hayro_jbig2::Result;
 use hayro_jbig2::parts::arithmetic_decoder::{ArithmeticDecoder, ArithmeticDecoderContext};
-use hayro_jbig2::parts::bitmap::steps::Steps;
+use hayro_jbig2::parts::bitmap::Steps;
 use hayro_jbig2::parts::mq::{decode_list, encode_list};
 use jbig2_permit::Permit;
 use std::alloc::Allocator;

@@ -2,9 +2,8 @@
 ghost use Rattle.std.specs.Prelude.{◌≡◌};
 
 use hayro_jbig2::Result;
-use hayro_jbig2::parts::bitmap::Bitmap;
 use hayro_jbig2::parts::bitmap::operator::CombinationOperator;
-use hayro_jbig2::parts::bitmap::steps::Steps;
+use hayro_jbig2::parts::bitmap::{Bitmap, Steps};
 use jbig2_permit::Permit;
 use std::alloc::Allocator;
 use std::marker::Brand;

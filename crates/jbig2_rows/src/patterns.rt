@@ -2,7 +2,7 @@
 ghost use Rattle.std.specs.Prelude.{◌≡◌};
 
 use hayro_jbig2::Result;
-use hayro_jbig2::parts::bitmap::steps::Steps;
+use hayro_jbig2::parts::bitmap::Steps;
 use hayro_jbig2::parts::mq::encode_list;
 use hayro_jbig2::parts::pattern::{PatternDictionaryHeader, decode};
 use hayro_jbig2::parts::template::Template;

@@ -14,9 +14,8 @@ use crate::input::SymbolInput;
 use crate::readings::{HeightClass, ReadClasses, ReadSymbols, SymbolSize};
 use crate::widths::{RunningWidths, next_size};
 use jbig2_base::bitmap::Bitmap;
-use jbig2_base::bitmap::steps::Work;
 use jbig2_base::error::{Result, SymbolError};
-use jbig2_steps::prices;
+use jbig2_steps::{Work, prices};
 use std::alloc::Allocator;
 use std::sync::ledger::Ledger;
 

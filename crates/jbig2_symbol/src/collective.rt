@@ -12,12 +12,12 @@ ghost use Rattle.jbig2_symbol.specs.inner.SymbolViews.{bytes_of_rows, symbols_af
 
 use crate::readings::SymbolSize;
 use jbig2_base::bitmap::part::Area;
-use jbig2_base::bitmap::steps::{Steps, Work};
 use jbig2_base::bitmap::{Bitmap, MAX_AREA};
 use jbig2_base::error::{OverflowError, RegionError, Result};
 use jbig2_base::field::bytes_field;
 use jbig2_base::reader::Reader;
 use jbig2_mmr::mmr;
+use jbig2_steps::{Steps, Work};
 use std::alloc::Allocator;
 use std::sync::ledger::Ledger;
 

@@ -14,9 +14,8 @@ ghost use Rattle.jbig2_symbol.specs.inner.SymbolViews.{all_symbols, input_view};
 use crate::input::SymbolInput;
 use crate::readings::ReadClasses;
 use jbig2_base::bitmap::Bitmap;
-use jbig2_base::bitmap::steps::Work;
 use jbig2_base::error::{HuffmanError, Result, SymbolError};
-use jbig2_steps::prices;
+use jbig2_steps::{Work, prices};
 use std::alloc::Allocator;
 use std::sync::ledger::Ledger;
 

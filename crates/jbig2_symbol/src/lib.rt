@@ -41,9 +41,9 @@ use crate::prefixed::PrefixedSymbols;
 use crate::readings::ReadClasses;
 use crate::tables::symbol_tables;
 use jbig2_base::bitmap::Bitmap;
-use jbig2_base::bitmap::steps::Work;
 use jbig2_base::error::Result;
 use jbig2_coder::huffman_table::{HuffmanTable, StandardHuffmanTables};
+use jbig2_steps::Work;
 use std::alloc::Allocator;
 use std::sync::ledger::Ledger;
 

@@ -10,8 +10,8 @@ ghost use Rattle.jbig2_symbol.specs.inner.SymbolViews.{concat, input_view};
 
 use crate::input::SymbolInput;
 use jbig2_base::bitmap::Bitmap;
-use jbig2_base::bitmap::steps::Work;
 use jbig2_base::error::Result;
+use jbig2_steps::Work;
 use std::alloc::Allocator;
 use std::sync::ledger::Ledger;
 

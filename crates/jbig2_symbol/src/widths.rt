@@ -10,8 +10,8 @@ ghost use Rattle.jbig2_symbol.specs.inner.SymbolViews.{IsNextWidth, input_view, 
 
 use crate::input::SymbolInput;
 use crate::readings::ReadSymbols;
-use jbig2_base::bitmap::steps::Work;
 use jbig2_base::error::{OverflowError, Result, SymbolError};
+use jbig2_steps::Work;
 use std::alloc::Allocator;
 use std::sync::ledger::Ledger;
 

@@ -4,12 +4,12 @@ ghost use Rattle.std.specs.Prelude.{◌≡◌};
 mod planes;
 
 use crate::pictures::{Picture, shows};
-use jbig2_base::bitmap::steps::Steps;
 use jbig2_base::error::{DecodeError, Result};
 use jbig2_base::reader::Reader;
 use jbig2_halftone::pattern::PatternDictionary;
 use jbig2_halftone::{halftone, pattern};
 use jbig2_permit::Permit;
+use jbig2_steps::Steps;
 use std::alloc::Global;
 use std::marker::Brand;
 use std::sync::ledger::{Blank, Ledger};

@@ -2,10 +2,10 @@
 ghost use Rattle.std.specs.Prelude.{◌≡◌};
 
 use jbig2_base::bitmap::Bitmap;
-use jbig2_base::bitmap::steps::Steps;
 use jbig2_base::error::{DecodeError, Result};
 use jbig2_mmr::mmr::decode;
 use jbig2_permit::Permit;
+use jbig2_steps::Steps;
 use std::alloc::Global;
 use std::marker::Brand;
 use std::sync::ledger::{Blank, Ledger};

@@ -1,7 +1,7 @@
 //! Bitmaps as pictures, among them the symbols and the text of the example of T.88, H.1.
 use jbig2_base::bitmap::Bitmap;
-use jbig2_base::bitmap::steps::Steps;
 use jbig2_base::error::Result;
+use jbig2_steps::Steps;
 use std::alloc::Global;
 use std::sync::ledger::Ledger;
 

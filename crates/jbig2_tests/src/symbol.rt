@@ -3,12 +3,12 @@ ghost use Rattle.std.specs.Prelude.{◌≡◌, ◌≤◌, length};
 
 use crate::pictures::{A, A_AND_C, C, P, Picture, bitmap_of, shows};
 use jbig2_base::bitmap::Bitmap;
-use jbig2_base::bitmap::steps::{Steps, Work};
 use jbig2_base::error::{DecodeError, Result};
 use jbig2_base::reader::Reader;
 use jbig2_coder::huffman_table::{HuffmanTable, StandardHuffmanTables};
 use jbig2_permit::Permit;
 use jbig2_region::template::{RefinementTemplate, Template};
+use jbig2_steps::{Steps, Work};
 use jbig2_symbol::{HuffmanTableSelection, RetainedContexts, SymbolDictionary, decode, parse};
 use std::alloc::Global;
 use std::marker::Brand;

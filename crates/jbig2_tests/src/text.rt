@@ -5,13 +5,13 @@ use crate::coder::integers::EXAMPLE;
 use crate::pictures::{A, A_AND_C, C, P, Picture, WORD, bitmap_of, shows};
 use jbig2_base::bitmap::Bitmap;
 use jbig2_base::bitmap::operator::CombinationOperator;
-use jbig2_base::bitmap::steps::Work;
 use jbig2_base::error::{DecodeError, Result};
 use jbig2_base::reader::Reader;
 use jbig2_coder::huffman_table::{HuffmanTable, StandardHuffmanTables};
 use jbig2_coder::integer_procedures::IntegerProcedure;
 use jbig2_permit::Permit;
 use jbig2_region::template::{AdaptiveTemplatePixel, RefinementTemplate};
+use jbig2_steps::Work;
 use jbig2_text::code_field::value_field;
 use jbig2_text::header::ReferenceCorner;
 use jbig2_text::{

@@ -9,12 +9,12 @@ ghost use Rattle.jbig2_text.specs.inner.TextViews.{coded_view};
 use crate::readings::ReadInstances;
 use crate::refining::Refining;
 use jbig2_base::bitmap::Bitmap;
-use jbig2_base::bitmap::steps::Work;
 use jbig2_base::error::{DecodeError, Result, SymbolError};
 use jbig2_coder::arithmetic_decoder::ArithmeticDecoder;
 use jbig2_coder::integer_procedures::{IntegerProcedure, IntegerProcedures};
 use jbig2_coder::symbol_id_decoder::SymbolIdDecoder;
 use jbig2_region::generic_refinement::ReferenceBitmap;
+use jbig2_steps::Work;
 use std::alloc::Allocator;
 use std::sync::ledger::Ledger;
 

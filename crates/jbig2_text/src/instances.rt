@@ -17,9 +17,8 @@ use crate::refining::Refining;
 use crate::strips::{begin_strip, check_end, move_on, read_strip_delta, read_t_in_strip};
 use crate::symbols::{InstanceSymbol, TextParams, read_symbol};
 use jbig2_base::bitmap::Bitmap;
-use jbig2_base::bitmap::steps::Work;
 use jbig2_base::error::{Result, SymbolError};
-use jbig2_steps::prices;
+use jbig2_steps::{Work, prices};
 use std::alloc::Allocator;
 use std::sync::ledger::Ledger;
 

@@ -46,13 +46,13 @@ use crate::tables::select_tables;
 pub use crate::whole::whole_instances;
 pub use header::parse;
 use jbig2_base::bitmap::Bitmap;
-use jbig2_base::bitmap::steps::Work;
 use jbig2_base::code_length::code_length;
 use jbig2_base::error::Result;
 use jbig2_base::reader::Reader;
 use jbig2_coder::huffman_table::{HuffmanTable, StandardHuffmanTables};
 use jbig2_region::decoded_region::{DecodedRegion, check_sides};
 use jbig2_region::template::AdaptiveTemplatePixel;
+use jbig2_steps::Work;
 use std::alloc::Allocator;
 use std::sync::ledger::Ledger;
 

@@ -9,13 +9,13 @@ use crate::readings::ReadInstances;
 use crate::refining::Refining;
 use crate::tables::TextRegionHuffmanTables;
 use jbig2_base::bitmap::Bitmap;
-use jbig2_base::bitmap::steps::Work;
 use jbig2_base::error::{HuffmanError, ParseError, Result};
 use jbig2_base::field::{bits_field, bytes_field};
 use jbig2_base::reader::Reader;
 use jbig2_coder::arithmetic_decoder::ArithmeticDecoder;
 use jbig2_coder::huffman_table::HuffmanTable;
 use jbig2_region::generic_refinement::ReferenceBitmap;
+use jbig2_steps::Work;
 use std::alloc::Allocator;
 use std::sync::ledger::Ledger;
 

@@ -9,9 +9,9 @@ ghost use Rattle.jbig2_text.specs.Text.{Readings};
 
 use crate::refining::Refining;
 use jbig2_base::bitmap::Bitmap;
-use jbig2_base::bitmap::steps::Work;
 use jbig2_base::error::Result;
 use jbig2_region::generic_refinement::ReferenceBitmap;
+use jbig2_steps::Work;
 use std::alloc::Allocator;
 use std::sync::ledger::Ledger;
 

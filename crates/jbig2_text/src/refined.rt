@@ -13,10 +13,10 @@ use crate::readings::ReadInstances;
 use crate::refining::Refining;
 use crate::symbol_list::SymbolList;
 use jbig2_base::bitmap::Bitmap;
-use jbig2_base::bitmap::steps::Work;
 use jbig2_base::error::{Result, SymbolError};
 use jbig2_region::decoded_region::check_sides;
 use jbig2_region::generic_refinement::ReferenceBitmap;
+use jbig2_steps::Work;
 use std::alloc::Allocator;
 use std::sync::ledger::Ledger;
 

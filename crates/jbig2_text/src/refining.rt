@@ -12,13 +12,13 @@ ghost use Rattle.jbig2_text.specs.inner.TextViews.{some_pixels};
 ghost use Rattle.jbig2_text.specs.inner.FunctionResults.{fresh_refining, refining_by};
 
 use jbig2_base::bitmap::Bitmap;
-use jbig2_base::bitmap::steps::Work;
 use jbig2_base::error::Result;
 use jbig2_coder::arithmetic_decoder::{
     ArithmeticDecoder, ArithmeticDecoderContext, fresh_contexts,
 };
 use jbig2_region::generic_refinement::{ReferenceBitmap, decode_bitmap};
 use jbig2_region::template::{AdaptiveTemplatePixel, RefinementTemplate};
+use jbig2_steps::Work;
 use std::alloc::Allocator;
 use std::marker::Model;
 use std::sync::ledger::Ledger;

@@ -10,8 +10,8 @@ use crate::cursor::Cursor;
 use crate::header::TextRegionFlags;
 use crate::numbers;
 use crate::readings::ReadInstances;
-use jbig2_base::bitmap::steps::Work;
 use jbig2_base::error::{Result, SymbolError};
+use jbig2_steps::Work;
 use std::sync::ledger::Ledger;
 
 /// Reads a difference of T, in rows.

@@ -12,9 +12,9 @@ use crate::readings::ReadInstances;
 use crate::refined::read_refined;
 use crate::refining::Refining;
 use crate::symbol_list::SymbolList;
-use jbig2_base::bitmap::steps::Work;
 use jbig2_base::bitmap::{Bitmap, CombinationOperator};
 use jbig2_base::error::{Result, SymbolError};
+use jbig2_steps::Work;
 use std::alloc::Allocator;
 use std::sync::ledger::Ledger;
 

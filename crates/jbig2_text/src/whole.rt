@@ -19,11 +19,10 @@ use crate::strips::{begin_strip, move_on, read_strip_delta};
 use crate::symbols::TextParams;
 use crate::{numbers, params_of, refining_of, start_coded, start_prefixed};
 use jbig2_base::bitmap::Bitmap;
-use jbig2_base::bitmap::steps::Work;
 use jbig2_base::error::{DecodeError, Result};
 use jbig2_coder::huffman_table::{HuffmanTable, StandardHuffmanTables};
 use jbig2_region::decoded_region::check_sides;
-use jbig2_steps::prices;
+use jbig2_steps::{Work, prices};
 use std::alloc::Allocator;
 use std::sync::ledger::Ledger;
 

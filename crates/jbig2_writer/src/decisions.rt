@@ -10,10 +10,10 @@ ghost use Rattle.jbig2_writer.specs.inner.Windows.{CodesGroup, IsNarrow, neighbo
 use crate::settings::ArithmeticCoding;
 use crate::windows::{Windows, windows_at};
 use jbig2_base::bitmap::Bitmap;
-use jbig2_base::bitmap::steps::Steps;
 use jbig2_base::error::Result;
 use jbig2_coder::mq::ListEncoder;
 use jbig2_region::template::{Neighbours, nominal_neighbours};
+use jbig2_steps::Steps;
 use std::alloc::Allocator;
 use std::sync::ledger::Ledger;
 

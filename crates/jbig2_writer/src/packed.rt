@@ -8,8 +8,8 @@ ghost use Rattle.jbig2_page.specs.Image.{packed_size, row_bytes};
 ghost use Rattle.jbig2_writer.specs.Packed.{packed_grid, packed_pixel};
 
 use jbig2_base::bitmap::Bitmap;
-use jbig2_base::bitmap::steps::Steps;
 use jbig2_base::error::Result;
+use jbig2_steps::Steps;
 use std::alloc::Allocator;
 use std::sync::ledger::Ledger;
 

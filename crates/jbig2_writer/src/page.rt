@@ -11,9 +11,9 @@ use crate::decisions::coded_rows;
 use crate::error::WriteError;
 use crate::packed::bitmap_of_rows;
 use crate::settings::{RegionCoding, WriteSettings};
-use jbig2_base::bitmap::steps::Steps;
 use jbig2_base::bitmap::{Bitmap, MAX_DIMENSION};
 use jbig2_mmr_writer::coded_mmr;
+use jbig2_steps::Steps;
 use std::alloc::{AllocError, Allocator};
 use std::sync::ledger::Ledger;
 

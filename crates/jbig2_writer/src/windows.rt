@@ -13,8 +13,8 @@ ghost use Rattle.jbig2_region.specs.inner.Neighbours.{IsWindow};
 ghost use Rattle.jbig2_writer.specs.inner.Windows.{IsNarrow, AreWindows, neighbour_pixels};
 
 use jbig2_base::bitmap::Bitmap;
-use jbig2_base::bitmap::steps::Steps;
 use jbig2_region::template::{Neighbours, Stretch};
+use jbig2_steps::Steps;
 use std::alloc::Allocator;
 use std::sync::ledger::Ledger;
 

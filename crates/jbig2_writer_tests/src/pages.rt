@@ -2,9 +2,9 @@
 ghost use Rattle.std.specs.Prelude.{◌≡◌};
 
 use jbig2_base::bitmap::Bitmap;
-use jbig2_base::bitmap::steps::Steps;
 use jbig2_permit::Permit;
 use jbig2_region::template::Template;
+use jbig2_steps::Steps;
 use jbig2_writer::{
     ArithmeticCoding, Container, RegionCoding, WriteError, WriteSettings, write_packed, write_page,
 };

@@ -9,9 +9,9 @@ ghost use Rattle.jbig2_steps.specs.Work.{IsWithinLimit, Paid, price_of_bitmap, b
 
 use crate::page::Page;
 use crate::work_limit::WorkLimit;
-use jbig2_base::bitmap::steps::Work;
 use jbig2_base::error::Result;
 use jbig2_page::page::form::Form;
+use jbig2_steps::Work;
 use std::alloc::Allocator;
 use std::marker::Brand;
 use std::sync::ledger::{Blank, Ledger};

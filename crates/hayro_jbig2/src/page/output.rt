@@ -11,9 +11,9 @@ ghost use Rattle.jbig2_steps.specs.Work.{IsWithinLimit, Paid, paid_words, price_
 use crate::context::DecoderContext;
 use crate::drawn_page::DrawnPage;
 use crate::page::Page;
-use jbig2_base::bitmap::steps::Work;
 use jbig2_base::error::Result;
 use jbig2_page::page::decoder::Decoder;
+use jbig2_steps::Work;
 use std::alloc::Allocator;
 use std::marker::Brand;
 use std::sync::ledger::{Blank, Ledger};

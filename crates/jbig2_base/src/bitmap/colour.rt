@@ -6,7 +6,7 @@ ghost use Rattle.jbig2_base.specs.Colour.{IsFirst};
 ghost use Rattle.jbig2_base.specs.Bits.{bit};
 
 use crate::bitmap::Bitmap;
-use crate::bitmap::steps::Steps;
+use jbig2_steps::Steps;
 use std::alloc::Allocator;
 use std::sync::ledger::Ledger;
 

@@ -10,7 +10,7 @@ ghost use Rattle.jbig2_base.specs.Bits.{bit};
 use crate::bitmap::Bitmap;
 use crate::bitmap::operator::CombinationOperator;
 use crate::bitmap::rows::blocks::Block;
-use crate::bitmap::steps::Steps;
+use jbig2_steps::Steps;
 use std::alloc::Allocator;
 use std::sync::ledger::Ledger;
 

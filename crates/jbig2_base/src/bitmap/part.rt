@@ -7,8 +7,8 @@ ghost use Rattle.jbig2_base.specs.Grid.{part_of, part_or_overflow};
 ghost use Rattle.jbig2_base.specs.inner.GridsBefore.{grid_before, pixel_of_part};
 
 use crate::bitmap::Bitmap;
-use crate::bitmap::steps::Steps;
 use crate::error::Result;
+use jbig2_steps::Steps;
 use std::alloc::Allocator;
 use std::sync::ledger::Ledger;
 

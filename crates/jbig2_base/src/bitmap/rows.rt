@@ -14,9 +14,9 @@ pub mod blocks;
 pub mod words;
 
 use crate::bitmap::operator::CombinationOperator;
-use crate::bitmap::steps::Steps;
 use crate::error::Result;
 use blocks::{Block, Shape};
+use jbig2_steps::Steps;
 use std::alloc::Allocator;
 use std::marker::Model;
 use std::sync::ledger::Ledger;

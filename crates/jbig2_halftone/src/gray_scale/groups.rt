@@ -5,7 +5,7 @@ ghost use Rattle.jbig2_base.specs.Grid.{bit_number};
 ghost use Rattle.jbig2_base.specs.Bits.{bit};
 ghost use Rattle.jbig2_halftone.specs.inner.NextValues.{next_value};
 
-use jbig2_base::bitmap::steps::Steps;
+use jbig2_steps::Steps;
 use std::simd::prelude::*;
 use std::sync::ledger::Ledger;
 

@@ -6,7 +6,7 @@ ghost use Rattle.jbig2_halftone.specs.inner.FunctionResults.{after_lane_rows, af
 
 use crate::gray_scale::groups::{LANES, next_group, next_pixel};
 use jbig2_base::bitmap::Bitmap;
-use jbig2_base::bitmap::steps::Steps;
+use jbig2_steps::Steps;
 use std::alloc::Allocator;
 use std::simd::prelude::*;
 use std::sync::ledger::Ledger;

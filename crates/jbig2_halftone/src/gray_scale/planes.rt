@@ -15,7 +15,6 @@ ghost use Rattle.jbig2_halftone.specs.inner.FunctionResults.{plane_coding, plane
 use crate::gray_scale::GrayScaleParams;
 use crate::gray_scale::lanes::add_plane;
 use jbig2_base::bitmap::Bitmap;
-use jbig2_base::bitmap::steps::Steps;
 use jbig2_base::error::Result;
 use jbig2_coder::arithmetic_decoder::{
     ArithmeticDecoder, ArithmeticDecoderContext, fresh_contexts,
@@ -24,6 +23,7 @@ use jbig2_mmr::mmr;
 use jbig2_region::generic::decode_coded;
 use jbig2_region::skipping::decode_skipping;
 use jbig2_region::template::GenericTemplatePixels;
+use jbig2_steps::Steps;
 use std::alloc::Allocator;
 use std::sync::ledger::Ledger;
 

@@ -13,13 +13,13 @@ ghost use Rattle.jbig2_halftone.specs.inner.HalftoneViews.{gray_view};
 use crate::gray_scale::GrayScaleParams;
 use crate::gray_scale::planes::{decode_plane, read_mmr_plane};
 use jbig2_base::bitmap::Bitmap;
-use jbig2_base::bitmap::steps::Steps;
 use jbig2_base::error::Result;
 use jbig2_coder::arithmetic_decoder::{
     ArithmeticDecoder, ArithmeticDecoderContext, fresh_contexts,
 };
 use jbig2_mmr::mmr;
 use jbig2_region::generic::count_regular_rows;
+use jbig2_steps::Steps;
 use std::alloc::Allocator;
 use std::sync::ledger::Ledger;
 

@@ -14,10 +14,10 @@ use crate::gray_scale::whole_rows::whole_image_rows;
 use crate::halftone::{HalftoneRegionHeader, cell_params, draw_rows, read_cells, skip_mask};
 use crate::pattern::PatternDictionary;
 use jbig2_base::bitmap::Bitmap;
-use jbig2_base::bitmap::steps::Steps;
 use jbig2_base::error::Result;
 use jbig2_coder::arithmetic_decoder::ArithmeticDecoderContext;
 use jbig2_region::decoded_region::DecodedRegion;
+use jbig2_steps::Steps;
 use std::alloc::Allocator;
 use std::sync::ledger::Ledger;
 

@@ -10,7 +10,7 @@ ghost use Rattle.jbig2_mmr.specs.Steps.{MovesWithin};
 ghost use Rattle.jbig2_mmr.specs.inner.T6Calls.{IsWordOf};
 
 use jbig2_base::bitmap::Bitmap;
-use jbig2_base::bitmap::steps::Steps;
+use jbig2_steps::Steps;
 use std::alloc::Allocator;
 use std::sync::ledger::Ledger;
 

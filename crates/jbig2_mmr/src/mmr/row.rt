@@ -15,7 +15,7 @@ use crate::mmr::change::{RowWord, find_change};
 use crate::mmr::codes::Mode;
 use crate::mmr::span::fill_span;
 use jbig2_base::bitmap::Bitmap;
-use jbig2_base::bitmap::steps::Steps;
+use jbig2_steps::Steps;
 use std::alloc::Allocator;
 use std::sync::ledger::Ledger;
 

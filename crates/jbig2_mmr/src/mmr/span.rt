@@ -8,7 +8,7 @@ ghost use Rattle.jbig2_mmr.specs.inner.T6Steps.{span_words};
 ghost use Rattle.jbig2_mmr.specs.Steps.{MovesWithin};
 
 use jbig2_base::bitmap::Bitmap;
-use jbig2_base::bitmap::steps::Steps;
+use jbig2_steps::Steps;
 use std::alloc::Allocator;
 use std::sync::ledger::Ledger;
 

@@ -6,7 +6,7 @@ ghost use Rattle.jbig2_steps.specs.Work.{sum_of_counts};
 
 use crate::drawing::packed::write_packed;
 use jbig2_base::bitmap::Bitmap;
-use jbig2_base::bitmap::steps::Steps;
+use jbig2_steps::Steps;
 use std::alloc::Allocator;
 use std::marker::Model;
 use std::sync::ledger::Ledger;

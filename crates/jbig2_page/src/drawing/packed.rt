@@ -7,7 +7,7 @@ ghost use Rattle.jbig2_page.specs.inner.BufferBytes.{top_byte, word_byte, Fills}
 ghost use Rattle.jbig2_steps.specs.Work.{sum_of_counts};
 
 use jbig2_base::bitmap::Bitmap;
-use jbig2_base::bitmap::steps::Steps;
+use jbig2_steps::Steps;
 use std::alloc::Allocator;
 use std::sync::ledger::Ledger;
 

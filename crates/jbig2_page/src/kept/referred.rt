@@ -10,10 +10,9 @@ ghost use Rattle.jbig2_steps.specs.Work.{Paid};
 
 use crate::kept::names::Lookup;
 use jbig2_base::bitmap::Bitmap;
-use jbig2_base::bitmap::steps::Work;
 use jbig2_base::error::{DecodeError, OverflowError, Result, SegmentError};
 use jbig2_coder::huffman_table::HuffmanTable;
-use jbig2_steps::prices;
+use jbig2_steps::{Work, prices};
 use jbig2_symbol::{RetainedContexts, SymbolDictionary};
 use std::alloc::Allocator;
 use std::marker::Model;

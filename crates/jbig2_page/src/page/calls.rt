@@ -9,8 +9,8 @@ ghost use Rattle.jbig2_steps.specs.Work.{CountsBeside, paid_words, sum_of_counts
 use crate::page::decoder::Decoder;
 use jbig2_base::bitmap::Bitmap;
 use jbig2_base::bitmap::colour::find_colour;
-use jbig2_base::bitmap::steps::Steps;
 use jbig2_base::error::Result;
+use jbig2_steps::Steps;
 use std::alloc::Allocator;
 use std::sync::ledger::Ledger;
 

@@ -9,8 +9,8 @@ ghost use Rattle.jbig2_steps.specs.Work.{CountsBeside, paid_words, price_of_bitm
 use crate::drawing::packed::next_place;
 use crate::page::calls::pixel_of;
 use jbig2_base::bitmap::Bitmap;
-use jbig2_base::bitmap::steps::Steps;
 use jbig2_framing::page_info::InitialPage;
+use jbig2_steps::Steps;
 use std::alloc::Allocator;
 use std::sync::ledger::Ledger;
 

@@ -18,8 +18,8 @@ use crate::page::calls::push_bitmap;
 use crate::page::decoder::Decoder;
 use crate::page::form::Form;
 use crate::page::image::write_image;
-use jbig2_base::bitmap::steps::Work;
 use jbig2_base::error::Result;
+use jbig2_steps::Work;
 use std::alloc::Allocator;
 use std::sync::ledger::Ledger;
 

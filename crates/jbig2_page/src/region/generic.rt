@@ -13,11 +13,11 @@ ghost use Rattle.jbig2_steps.specs.Work.{Paid};
 use crate::region::parsed_region::ParsedRegion;
 use crate::region::references::References;
 use crate::workspace::Workspace;
-use jbig2_base::bitmap::steps::Work;
 use jbig2_base::error::Result;
 use jbig2_base::reader::Reader;
 use jbig2_framing::segment::{Segment, is_partial};
 use jbig2_region::generic::{self, GenericRegionHeader};
+use jbig2_steps::Work;
 use std::alloc::Allocator;
 use std::sync::ledger::Ledger;
 

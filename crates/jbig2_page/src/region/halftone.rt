@@ -17,13 +17,13 @@ use crate::region::parsed_region::ParsedRegion;
 use crate::region::partial::halftone_part;
 use crate::region::references::References;
 use crate::workspace::Workspace;
-use jbig2_base::bitmap::steps::Work;
 use jbig2_base::code_length::code_length;
 use jbig2_base::error::{DecodeError, Result, SegmentError};
 use jbig2_base::reader::Reader;
 use jbig2_framing::segment::{Segment, is_partial};
 use jbig2_halftone::halftone::{self, HalftoneRegionHeader};
 use jbig2_halftone::pattern::PatternDictionary;
+use jbig2_steps::Work;
 use std::alloc::Allocator;
 use std::sync::ledger::Ledger;
 

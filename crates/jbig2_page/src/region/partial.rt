@@ -14,12 +14,12 @@ ghost use Rattle.jbig2_region.specs.inner.RefinedViews as refinements;
 use crate::region::halftone::pay_cells;
 use crate::region::parsed_region::ParsedRegion;
 use crate::workspace::Workspace;
-use jbig2_base::bitmap::steps::Work;
 use jbig2_base::error::Result;
 use jbig2_halftone::halftone::{self, HalftoneRegionHeader};
 use jbig2_halftone::pattern::PatternDictionary;
 use jbig2_region::decoded_region::{DecodedRegion, check_sides};
 use jbig2_region::generic_refinement::{self, GenericRefinementRegionHeader};
+use jbig2_steps::Work;
 use std::alloc::Allocator;
 use std::sync::ledger::Ledger;
 

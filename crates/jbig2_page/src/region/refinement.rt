@@ -25,13 +25,13 @@ use crate::region::references::References;
 use crate::workspace::Workspace;
 use jbig2_base::bitmap::Bitmap;
 use jbig2_base::bitmap::part::Area;
-use jbig2_base::bitmap::steps::Work;
 use jbig2_base::error::{OverflowError, Result, SegmentError};
 use jbig2_base::reader::Reader;
 use jbig2_framing::segment::{Segment, is_partial};
 use jbig2_region::decoded_region::DecodedRegion;
 use jbig2_region::generic_refinement::{self, GenericRefinementRegionHeader};
 use jbig2_region::region_info::RegionSegmentInfo;
+use jbig2_steps::Work;
 use std::alloc::Allocator;
 use std::sync::ledger::Ledger;
 

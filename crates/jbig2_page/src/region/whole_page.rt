@@ -9,9 +9,9 @@ ghost use Rattle.jbig2_steps.specs.Work.{Paid};
 
 use crate::region::parsed_region::ParsedRegion;
 use crate::workspace::Workspace;
-use jbig2_base::bitmap::steps::Work;
 use jbig2_base::bitmap::{Bitmap, CombinationOperator};
 use jbig2_base::error::Result;
+use jbig2_steps::Work;
 use std::alloc::Allocator;
 use std::sync::ledger::Ledger;
 

@@ -19,8 +19,8 @@ ghost use Rattle.jbig2_region.specs.inner.RegionStates.{decoder_state};
 use crate::generic_kernel::runs::take_runs;
 use crate::generic_kernel::windows::{WideWindows, Windows};
 use crate::template::neighbours::Neighbours;
-use jbig2_base::bitmap::steps::Steps;
 use jbig2_coder::arithmetic_decoder::{ArithmeticDecoder, ArithmeticDecoderContext};
+use jbig2_steps::Steps;
 use std::sync::ledger::Ledger;
 
 /// A remainder by this leaves the lowest sixteen bits.

@@ -18,8 +18,8 @@ use crate::template::Template;
 use crate::template::layouts::nominal_neighbours;
 use crate::template::neighbours::Neighbours;
 use jbig2_base::bitmap::Bitmap;
-use jbig2_base::bitmap::steps::Steps;
 use jbig2_coder::arithmetic_decoder::{ArithmeticDecoder, ArithmeticDecoderContext};
+use jbig2_steps::Steps;
 use std::alloc::Allocator;
 use std::sync::ledger::Ledger;
 

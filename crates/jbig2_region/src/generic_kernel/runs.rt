@@ -11,8 +11,8 @@ ghost use Rattle.jbig2_region.specs.Steps.{all_of, is_run_of};
 
 use crate::generic_kernel::windows::{WideWindows, Windows};
 use crate::template::neighbours::{Neighbours, Stretch};
-use jbig2_base::bitmap::steps::Steps;
 use jbig2_coder::arithmetic_decoder::{ArithmeticDecoder, ArithmeticDecoderContext};
+use jbig2_steps::Steps;
 use std::sync::ledger::Ledger;
 
 /// A word whose bits all have one colour.

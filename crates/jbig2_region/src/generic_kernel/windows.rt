@@ -15,7 +15,7 @@ ghost use Rattle.jbig2_base.specs.Bits.{bit};
 
 use crate::template::neighbours::Stretch;
 use jbig2_base::bitmap::Bitmap;
-use jbig2_base::bitmap::steps::Steps;
+use jbig2_steps::Steps;
 use std::alloc::Allocator;
 use std::sync::ledger::Ledger;
 

@@ -5,7 +5,7 @@ ghost use Rattle.jbig2_base.specs.Grid.{Grid};
 
 use crate::generic_kernel::windows::{WideWindows, Windows, pixels_above};
 use jbig2_base::bitmap::Bitmap;
-use jbig2_base::bitmap::steps::Steps;
+use jbig2_steps::Steps;
 use std::alloc::Allocator;
 use std::sync::ledger::Ledger;
 

@@ -14,11 +14,11 @@ use crate::generic_refinement::{ReferenceBitmap, decode, offset};
 use crate::refinement_coding::count_refined_rows;
 use jbig2_base::bitmap::Bitmap;
 use jbig2_base::bitmap::operator::CombinationOperator;
-use jbig2_base::bitmap::steps::Steps;
 use jbig2_base::error::Result;
 use jbig2_coder::arithmetic_decoder::{
     ArithmeticDecoder, ArithmeticDecoderContext, fresh_contexts,
 };
+use jbig2_steps::Steps;
 use std::alloc::Allocator;
 use std::sync::ledger::Ledger;
 

@@ -21,7 +21,7 @@ ghost use Rattle.jbig2_region.specs.inner.RefinementWindows.{Sees, SeesRows, kno
 
 use crate::generic_refinement::ReferenceBitmap;
 use jbig2_base::bitmap::Bitmap;
-use jbig2_base::bitmap::steps::Steps;
+use jbig2_steps::Steps;
 use std::alloc::Allocator;
 use std::sync::ledger::Ledger;
 

@@ -15,8 +15,8 @@ ghost use Rattle.jbig2_region.specs.inner.Stretches.{DecodesPixels};
 use crate::generic_kernel::windows::{Place, Windows, stretch_bits, windows_at};
 use crate::template::neighbours::{Neighbours, join};
 use jbig2_base::bitmap::Bitmap;
-use jbig2_base::bitmap::steps::Steps;
 use jbig2_coder::arithmetic_decoder::{ArithmeticDecoder, ArithmeticDecoderContext};
+use jbig2_steps::Steps;
 use std::alloc::Allocator;
 use std::sync::ledger::Ledger;
 

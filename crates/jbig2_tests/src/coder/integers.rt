@@ -1,12 +1,12 @@
 //! Tests integers and ids, with values that were computed from the text of Annex A.
 ghost use Rattle.std.specs.Prelude.{◌≡◌};
 
-use jbig2_base::bitmap::steps::Steps;
 use jbig2_base::error::{DecodeError, Result};
 use jbig2_coder::arithmetic_decoder::ArithmeticDecoder;
 use jbig2_coder::integer_decoder::IntegerDecoder;
 use jbig2_coder::symbol_id_decoder::SymbolIdDecoder;
 use jbig2_permit::Permit;
+use jbig2_steps::Steps;
 use std::alloc::Global;
 use std::marker::Brand;
 use std::sync::ledger::{Blank, Ledger};

@@ -6,12 +6,12 @@
 ghost use Rattle.std.specs.Prelude.{◌≡◌};
 
 use jbig2_base::bitmap::Bitmap;
-use jbig2_base::bitmap::steps::Steps;
 use jbig2_base::error::{DecodeError, Result};
 use jbig2_coder::mq::encode_list;
 use jbig2_halftone::gray_scale::{GrayScaleParams, decode_gray_scale_image};
 use jbig2_permit::Permit;
 use jbig2_region::template::Template;
+use jbig2_steps::Steps;
 use std::alloc::Global;
 use std::marker::Brand;
 use std::sync::ledger::{Blank, Ledger};

@@ -5,7 +5,6 @@ ghost use Rattle.jbig2_region.specs.declared.template.RefinementTemplate.TheVari
 
 use jbig2_base::bitmap::Bitmap;
 use jbig2_base::bitmap::operator::CombinationOperator;
-use jbig2_base::bitmap::steps::Steps;
 use jbig2_base::error::{DecodeError, Result};
 use jbig2_base::reader::Reader;
 use jbig2_coder::arithmetic_decoder::{
@@ -15,6 +14,7 @@ use jbig2_permit::Permit;
 use jbig2_region::generic::DecodedRegion;
 use jbig2_region::generic_refinement::{ReferenceBitmap, decode, decode_bitmap, parse};
 use jbig2_region::template::{AdaptiveTemplatePixel, RefinementTemplate};
+use jbig2_steps::Steps;
 use std::alloc::Global;
 use std::marker::Brand;
 use std::sync::ledger::{Blank, Ledger};

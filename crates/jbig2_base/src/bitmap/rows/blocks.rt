@@ -10,7 +10,7 @@ ghost use Rattle.jbig2_base.specs.Bits.{bit};
 
 use crate::bitmap::operator::CombinationOperator;
 use crate::bitmap::rows::words::{Words, WordsMut};
-use crate::bitmap::steps::Steps;
+use jbig2_steps::Steps;
 use std::sync::ledger::Ledger;
 
 /// A block of a page, and the first of the source's pixels on it.

@@ -12,8 +12,8 @@ mod lent;
 
 use crate::bitmap::operator::CombinationOperator;
 use crate::bitmap::rows::blocks::{Block, Shape, Source, combine_rows};
-use crate::bitmap::steps::Steps;
 use crate::error::Result;
+use jbig2_steps::Steps;
 pub use lent::{Words, WordsMut};
 use std::alloc::Allocator;
 use std::marker::Model;

@@ -1,7 +1,7 @@
 //! Words that are lent, for one row or one block. Each call reads or writes one word, and counts that.
 ghost use Rattle.std.specs.Prelude.{◌≡◌, ◌+◌, ◌<◌, length, slice_index, slice_set};
 
-use crate::bitmap::steps::Steps;
+use jbig2_steps::Steps;
 use std::sync::ledger::Ledger;
 
 /// Words that are borrowed for reading, one in each call.
