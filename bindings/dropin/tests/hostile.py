@@ -18,15 +18,15 @@ import random
 import sys
 import tempfile
 
-from testing.damaged import damaged
+from bindings.dropin.tests.peers import LENIENT, LIMITS, OURS, PEERS, SYSTEM, UNLIMITED, Library, Peer, pictures_by
 from conformance.runner.decoders import own_program
 from conformance.runner.limits import Ended, run
 from conformance.runner.manifest import Sample
 from conformance.runner.pdf import Image
 from conformance.runner.pictures import NoPicture, Picture, pictures_of
-from testing.samples import image_of_sample, rich_sample, samples_of
+from testing.damaged import damaged
 from testing.error_texts import TEXTS
-from bindings.dropin.tests.peers import LENIENT, LIMITS, OURS, PEERS, SYSTEM, UNLIMITED, Library, Peer, pictures_by
+from testing.samples import image_of_sample, rich_sample, samples_of
 
 SOME_PEERS = [peer for peer in PEERS if peer.name in ("mutool draw", "gs")]
 LIMITS_OF_MEMORY = [*range(0, 20000, 500), *range(20000, 200000, 20000), 1 << 30]

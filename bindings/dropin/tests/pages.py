@@ -14,10 +14,10 @@ import pathlib
 import sys
 import tempfile
 
+from bindings.dropin.tests.peers import OURS, PEERS, SYSTEM, Library, pictures_by, pictures_by_program, pictures_of_file
 from conformance.runner.manifest import Entry, Sample
 from conformance.runner.pictures import Picture
 from testing.samples import image_of_sample, samples_of
-from bindings.dropin.tests.peers import OURS, PEERS, SYSTEM, Library, pictures_by, pictures_by_program, pictures_of_file
 
 PAGES_IN_A_PDF = 100
 IN_FILES = "mutool draw, files of several pages"

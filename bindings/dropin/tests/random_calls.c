@@ -192,19 +192,25 @@ static void check_rows(const struct image *image) {
         fail("a page without a holder");
 }
 
-static void take_page(struct open_context *open) {
+static struct open_image *free_place(void) {
     for (struct open_image *place = images; place < images + IMAGES; place++)
-        if (place->image == NULL) {
-            struct image *image = jbig2_page_out(open->context);
-            /* Another page may have come to this place out of an allocator. */
-            while (place < images + IMAGES && place->image != NULL)
-                place++;
-            if (image != NULL && place == images + IMAGES)
-                jbig2_release_page(open->context, image);
-            else if (image != NULL)
-                *place = (struct open_image){image, open, 1};
-            return;
-        }
+        if (place->image == NULL)
+            return place;
+    return NULL;
+}
+
+static void take_page(struct open_context *open) {
+    if (free_place() == NULL)
+        return;
+    struct image *image = jbig2_page_out(open->context);
+    if (image == NULL)
+        return;
+    /* The allocator may have taken pages too, and the last place for one. */
+    struct open_image *place = free_place();
+    if (place == NULL)
+        jbig2_release_page(open->context, image);
+    else
+        *place = (struct open_image){image, open, 1};
 }
 
 static void use_image(void) {

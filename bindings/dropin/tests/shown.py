@@ -21,16 +21,16 @@ import random
 import sys
 import tempfile
 
-from testing.damaged import damaged
-from conformance.runner.embedding import embedded_page, image_of
-from conformance.runner.pdf import Image
-from conformance.runner.pictures import Picture, pictures_of
-from testing.samples import image_of_sample, samples_of
-from conformance.runner.segments import END_OF_FILE, END_OF_PAGE, PAGE_INFORMATION, UNKNOWN_LENGTH, sequential
 from bindings.dropin.tests.hostile import SOME_PEERS, Stream
 from bindings.dropin.tests.pages import wrong_in_pdf
 from bindings.dropin.tests.peers import OURS, PEERS, SYSTEM, Library, Peer, pictures_by
+from conformance.runner.embedding import embedded_page, image_of
+from conformance.runner.pdf import Image
+from conformance.runner.pictures import Picture, pictures_of
+from conformance.runner.segments import END_OF_FILE, END_OF_PAGE, PAGE_INFORMATION, UNKNOWN_LENGTH, sequential
+from testing.damaged import damaged
 from testing.jbig2_encoder.framing import segment
+from testing.samples import image_of_sample, samples_of
 
 SYMBOLS, TEXT, PATTERNS, HALFTONE = 0, 6, 16, 22
 # What begins the data of each region here: 8 by 1 pixels at the origin.

@@ -24,11 +24,11 @@ from support import (
     run,
 )
 
-from testing.damaged import damaged
 from conformance.runner.embedding import file_of, embedded_page
 from conformance.runner.manifest import PICTURE, read_manifest, read_sample
 from conformance.runner.segments import header_at, with_data
 from test_output import slow_page
+from testing.damaged import damaged
 from testing.error_texts import TEXTS
 
 ENTRIES = read_manifest(SUITE / "manifest.tsv")

@@ -14,8 +14,8 @@ from support import BOOK, HAS_PDF, INCOMPLETE, NOT_DONE, SUITE, TOOL, WHOLE, Cas
 from conformance.runner.embedding import embedded_page, image_of
 from conformance.runner.manifest import read_manifest
 from conformance.runner.pdf import Image, joined, pdf_of, stream_object
-from testing.samples import image_of_sample, samples_of
 from testing.error_texts import TEXTS
+from testing.samples import image_of_sample, samples_of
 
 
 def needs(program):

@@ -1,6 +1,6 @@
 """Times mutool and gs on JBIG2 pages, over this library and over the system's.
 
-    bindings/dropin/times [--rounds N] FILE.jb2 ..
+    testing/benchmarks/dropin [--rounds N] FILE.jb2 ..
 
 Each file has a page. A PDF file is made of each, and one of 200 pages of 8 by 1 pixels that share the symbols of the first
 file that has some. Both libraries take turns, and the least processor time of N rounds (5) counts. What the program takes
@@ -14,9 +14,9 @@ import resource
 import subprocess
 import tempfile
 
+from bindings.dropin.tests.peers import OURS, PEERS, SYSTEM, Library, Peer
 from conformance.runner.embedding import SMALL, embedded_page, image_of
 from conformance.runner.pdf import Image, pdf_of
-from bindings.dropin.tests.peers import OURS, PEERS, SYSTEM, Library, Peer
 
 MANY = 200
 
