@@ -11,8 +11,8 @@ use Rattle.jbig2_steps.specs.declared.prices.TheConstants as prices
 use Rattle.jbig2_page.specs.Files.{ReadFile, of_page}
 use Rattle.jbig2_page.specs.Names.{KeptGlobals}
 use Rattle.jbig2_page.specs.SharedWork.{PaysShared, shared_count}
-use Rattle.hayro_jbig2.specs.Context.{ContextView, IsLeftBy, LeavesDrawn, LeavesOf, units_of}
-use Rattle.hayro_jbig2.specs.WorkLimit.{Limit, TakesUnits, TakesShared, after_call}
+use Rattle.hayro_jbig2.specs.Context.{ContextView, IsLeftBy, LeavesDrawn, LeavesOf}
+use Rattle.hayro_jbig2.specs.WorkLimit.{Limit, TakesUnits, TakesShared, after_call, units_of}
 
 -- what a call takes from a limit, by what its counter was worth
 pub limit-taken : {L : Type 0} (limit after : Limit) (old new : Work L) (units : ℕ) → after ≡ after_call new limit → old.steps ≡ no_steps → old.left ≡ limit.left → budget new + 32 * units ≤ budget old → TakesUnits units limit after

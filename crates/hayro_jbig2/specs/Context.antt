@@ -1,7 +1,7 @@
 -- What a context keeps from one page to the next (our own rule): the drawing of the last page, whether there is one, how
 -- many units of work a page may take, how many of them the last page left, and how many steps it counted. After an error
 -- a context holds no page.
-use Rattle.std.specs.Prelude.{◌≡◌, ◌+◌, ◌-◌, ◌*◌, ◌^◌, ◌≤◌, ℕ, Bool, true, false, Option, Some, None, option_map, unwrap_or}
+use Rattle.std.specs.Prelude.{◌≡◌, ◌+◌, ◌*◌, ◌≤◌, ℕ, Bool, true, false, Option, Some, None, option_map}
 use Rattle.std.specs.Prelude.{Result, Ok, Err}
 use Rattle.jbig2_steps.specs.Work.{sum_of_counts}
 use Rattle.jbig2_steps.specs.declared.work.Work.{Work}
@@ -27,13 +27,6 @@ HoldsPage (Ok done) c = c.holds_page ≡ true
 HoldsPage (Err e) c = (c.holds_page ≡ false) × (c.drawing ≡ empty_drawing)
 
 -- ---- the limit of work
-abbrev pub units_of : Option ℕ → ℕ  -- without a limit there are as many units as a counter can hold
-units_of limit = unwrap_or limit (2 ^ 64 - 1)
-
--- what was counted is at most what the units of a limit pay for
-abbrev pub IsWithin : Option ℕ → ℕ → Type 0
-IsWithin limit steps = steps ≤ 32 * units_of limit
-
 -- A page took at least this many units of a limit besides those that pay for the steps that it counted, 32 for each
 -- unit. How many it left is known.
 abbrev pub LeavesOf : ℕ → Option ℕ → ContextView → Type 0

@@ -1,13 +1,12 @@
 -- The work that a caller allows for some calls (our own rule): how many units, how many of them are left, and how many
 -- steps these calls have counted.
-use Rattle.std.specs.Prelude.{◌≡◌, ◌+◌, ◌*◌, ◌≤◌, ℕ, List, Option, option_map, Result, IfOk}
+use Rattle.std.specs.Prelude.{◌≡◌, ◌+◌, ◌-◌, ◌*◌, ◌^◌, ◌≤◌, ℕ, List, Option, option_map, unwrap_or, Result, IfOk}
 use Rattle.jbig2_framing.specs.Segment.{SegmentView}
 use Rattle.jbig2_base.specs.declared.error.DecodeError.{DecodeError}
 use Rattle.jbig2_framing.specs.declared.file_header.FileHeader.{FileHeader}
 use Rattle.jbig2_steps.specs.Work.{sum_of_counts}
 use Rattle.jbig2_steps.specs.declared.work.Work.{Work}
 use Rattle.jbig2_steps.specs.declared.prices.TheConstants as prices
-use Rattle.hayro_jbig2.specs.Context.{units_of}
 use Rattle.jbig2_page.specs.Files.{ReadFile, of_page}
 use Rattle.jbig2_page.specs.SharedWork.{shared_count}
 
@@ -15,6 +14,13 @@ pub record Limit : Type 0 where
   pub units : Option ℕ  -- how many were allowed, if there is a limit
   pub left : ℕ
   pub steps : ℕ
+
+abbrev pub units_of : Option ℕ → ℕ  -- without a limit there are as many units as a counter can hold
+units_of limit = unwrap_or limit (2 ^ 64 - 1)
+
+-- what was counted is at most what the units of a limit pay for
+abbrev pub IsWithin : Option ℕ → ℕ → Type 0
+IsWithin limit steps = steps ≤ 32 * units_of limit
 
 abbrev pub limit_of : Option ℕ → Limit  -- before the first call
 limit_of units = record { units = units; left = units_of units; steps = 0 }

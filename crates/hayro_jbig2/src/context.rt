@@ -2,15 +2,16 @@
 ghost use Rattle.std.specs.Prelude.{◌≡◌, ◌==◌, ◌&&◌};
 ghost use Rattle.jbig2_base.specs.Results.{Gives};
 ghost use Rattle.jbig2_base.specs.Counts.{no_steps};
-ghost use Rattle.hayro_jbig2.specs.Context.{after_page, fresh_context, new_context, units_of};
+ghost use Rattle.hayro_jbig2.specs.Context.{after_page, fresh_context, new_context};
+ghost use Rattle.hayro_jbig2.specs.WorkLimit.{units_of};
 ghost use Rattle.jbig2_page.specs.Image.{packed_of};
 
-use crate::counted::StepCount;
 use crate::drawn_page::DrawnPage;
+use crate::step_count::StepCount;
+use crate::work_limit::work_within;
 use jbig2_base::error::Result;
 use jbig2_page::drawing::canvas::Canvas;
 use jbig2_page::drawing::passed_over::PassedOver;
-use jbig2_permit::Permit;
 use jbig2_steps::Work;
 use std::alloc::Allocator;
 use std::marker::Model;
@@ -57,17 +58,6 @@ impl<A: Allocator> Model for DecoderContext<A> {
       work_left = c.work_left;
       steps = c.counted;
     } };
-}
-
-/// A counter that may take the work of the limit, if there is one.
-pub(crate) fn work_within<L: Ledger>(limit: Option<u64>, blank: Blank) -> Work<L>
-    requires name { blank.name ≡ L.name }
-    requires parts { blank.parts ≡ L.parts }
-    requires enough { blank.parts ≡ 7 }
-    ensures steps { result.steps ≡ no_steps }
-    ensures left { result.left ≡ units_of limit }
-{
-    Work::within(Permit::grant(), blank, limit.unwrap_or(u64::MAX))
 }
 
 impl<A: Allocator + Clone> DecoderContext<A> {

@@ -9,7 +9,6 @@
 #![tactic(auto)]
 
 mod context;
-mod counted;
 mod drawn_page;
 mod file;
 mod globals;
@@ -17,6 +16,7 @@ mod jbig2_decoder;
 mod page;
 pub mod parts;
 mod settings;
+mod step_count;
 mod work_limit;
 
 pub use context::DecoderContext;

@@ -1,10 +1,10 @@
 //! `WorkLimit`: how many units of work the calls that take it may spend together.
 ghost use Rattle.std.specs.Prelude.{◌≡◌};
 ghost use Rattle.jbig2_base.specs.Counts.{no_steps};
-ghost use Rattle.hayro_jbig2.specs.WorkLimit.{after_call, units_left, limit_of};
+ghost use Rattle.hayro_jbig2.specs.WorkLimit.{after_call, units_left, units_of, limit_of};
 
-use crate::context::work_within;
-use crate::counted::StepCount;
+use crate::step_count::StepCount;
+use jbig2_permit::Permit;
 use jbig2_steps::Work;
 use std::marker::Model;
 use std::sync::ledger::{Blank, Ledger};
@@ -28,6 +28,17 @@ impl Model for WorkLimit {
       left = limit.left;
       steps = limit.counted;
     } };
+}
+
+/// A counter that may take as many units as `limit` has, or any number if it is `None`.
+pub(crate) fn work_within<L: Ledger>(limit: Option<u64>, blank: Blank) -> Work<L>
+    requires name { blank.name ≡ L.name }
+    requires parts { blank.parts ≡ L.parts }
+    requires enough { blank.parts ≡ 7 }
+    ensures steps { result.steps ≡ no_steps }
+    ensures left { result.left ≡ units_of limit }
+{
+    Work::within(Permit::grant(), blank, limit.unwrap_or(u64::MAX))
 }
 
 impl WorkLimit {

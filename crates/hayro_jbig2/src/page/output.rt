@@ -2,7 +2,8 @@
 ghost use Rattle.std.specs.Prelude.{◌≡◌, ◌+◌, ◌*◌, ◌≤◌, Ok, IfErr, IfOk};
 ghost use Rattle.jbig2_base.specs.Results.{Gives};
 ghost use Rattle.jbig2_page.specs.Calls.{Decodes, IsCountable};
-ghost use Rattle.hayro_jbig2.specs.Context.{HoldsPage, IsLeftBy, IsWithin, LeavesDrawn, LeavesOf};
+ghost use Rattle.hayro_jbig2.specs.Context.{HoldsPage, IsLeftBy, LeavesDrawn, LeavesOf};
+ghost use Rattle.hayro_jbig2.specs.WorkLimit.{IsWithin};
 ghost use Rattle.jbig2_page.specs.Image.{packed_of_page};
 ghost use Rattle.jbig2_page.specs.Page.{drawing_of_page, grid_of_page};
 ghost use Rattle.jbig2_page.specs.Returned.{IsReturned};

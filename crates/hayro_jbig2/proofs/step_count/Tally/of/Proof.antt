@@ -33,11 +33,11 @@ use denote.Triple.Entry.{on_entry, alive}
 use denote.Triple.Spec.{Meets, triple_of}
 use denote.Triple.Table.{entered}
 use denote.Triple.Walked.{says, Stays, stay_dropped, walk_of, ends_at, Goes-dropped, walk_Meets}
-use Rattle.hayro_jbig2.specs.declared.counted.Measure.{Ghosts}
-use Rattle.hayro_jbig2.specs.contracts.counted.Tally.of.{ended, clauses}
-use Rattle.hayro_jbig2.specs.contracts.counted.Tally.of.Key.{name as #self}
-use Rattle.hayro_jbig2.proofs.counted.Tally.of.Statement as stated
-use Rattle.hayro_jbig2.proofs.counted.Tally.of.Code as code
+use Rattle.hayro_jbig2.specs.declared.step_count.Measure.{Ghosts}
+use Rattle.hayro_jbig2.specs.contracts.step_count.Tally.of.{ended, clauses}
+use Rattle.hayro_jbig2.specs.contracts.step_count.Tally.of.Key.{name as #self}
+use Rattle.hayro_jbig2.proofs.step_count.Tally.of.Statement as stated
+use Rattle.hayro_jbig2.proofs.step_count.Tally.of.Code as code
 
 module _ (Y : RattleType) (g : Ghosts Y.Denot) (d : Dict) where
   abbrev R : RattleType
