@@ -2,7 +2,7 @@
 use Rattle.std.proofs.Common.{◌≡◌, ℕ, zero, suc, ◌+◌, ◌-◌, ◌*◌, ◌/◌, ◌%◌, ◌^◌, ◌<◌, ◌≤◌, eqb, leb, Bool, true, false, not, cond, List, [], ◌∷◌, take, drop, length, Option, Some, None, Result, Ok, Err, refl, sym, ◌∙◌, ap, subst, arith, inl, inr, ⊎_elim, length-drop}
 use Rattle.std.specs.Prelude.{◌≢◌, ◌⊎◌, ◌&&◌, ◌||◌, All, IfErr}
 use Rattle.std.specs.Int.{Width, w8, w32, byte_len, from_be_bytes}
-use Rattle.std.specs.List.{list_any, list_all}
+use Rattle.std.specs.List.{list_any, list_all, filter, range_with_len}
 use Rattle.std.proofs.lemmas.Bool.{eqb-true, leb-true, and_parts, or_cases, not-true, true≢false, false≢true}
 use Rattle.std.proofs.lemmas.List.{drop-drop, drop-take, take-take}
 use Rattle.jbig2_base.specs.Results.{◌>>=◌, refuse_if}
@@ -31,6 +31,11 @@ others n (t ∷ ts) reserved known =
 unlisted : (n : ℕ) → is_reserved (type_of n) ≡ true → All (λ t. n ≢ t) listed_types
 unfolding type_of
 unlisted n reserved = others n listed_types reserved refl
+
+-- the types in the list are all that aren't reserved
+listed-are-all : filter (λ n. not (is_reserved (type_of n))) (range_with_len 0 64) ≡ listed_types
+unfolding type_of
+listed-are-all = refl
 
 other-type : (n : ℕ) → is_immediate_generic (type_of n) ≡ false → n ≢ 38
 unfolding type_of
