@@ -9,8 +9,8 @@ use Rattle.jbig2_steps.specs.Work.{sum_of_counts, budget}
 use Rattle.jbig2_steps.specs.declared.work.Work.{Work}
 use Rattle.jbig2_steps.specs.declared.prices.TheConstants as prices
 use Rattle.jbig2_page.specs.Files.{ReadFile, of_page}
-use Rattle.jbig2_page.specs.Names.{KeptGlobals}
 use Rattle.jbig2_page.specs.SharedWork.{PaysShared, shared_count}
+use Rattle.jbig2_page.specs.Globals.{KeptGlobals}
 use Rattle.hayro_jbig2.specs.Context.{ContextView, IsLeftBy, LeavesDrawn, LeavesOf}
 use Rattle.hayro_jbig2.specs.WorkLimit.{Limit, TakesUnits, TakesShared, after_call, units_of}
 

@@ -5,8 +5,8 @@ use Rattle.std.specs.IoError.{error_kind}
 use Rattle.std.specs.declared.io.ErrorKind.TheVariants.{Interrupted}
 use Rattle.jbig2_base.specs.declared.error.DecodeError.{DecodeError}
 use Rattle.jbig2_base.specs.declared.error.DecodeError.TheVariants.{OutOfMemory}
-use Rattle.jbig2_page.specs.Image.{first_size}
 use Rattle.jbig2_page.specs.Returned.{IsReturned}
+use Rattle.jbig2_page.specs.FirstPage.{first_size}
 use Rattle.hayro_jbig2.specs.declared.jbig2_decoder.jbig2_error.Jbig2Error.{Jbig2Error}
 use Rattle.hayro_jbig2.specs.declared.jbig2_decoder.jbig2_error.Jbig2Error.TheVariants.{Io, Decode}
 

@@ -5,12 +5,12 @@ ghost use Rattle.jbig2_base.specs.Results.{Returns, Gives};
 ghost use Rattle.jbig2_page.specs.Files.{book_at, page_of, pages_of, segments_at, PagesStandAlone};
 ghost use Rattle.jbig2_framing.specs.Reading.{reading_of};
 ghost use Rattle.jbig2_framing.specs.declared.reading.Reading.TheVariants.{Salvage};
-ghost use Rattle.jbig2_page.specs.Names.{names_of};
 ghost use Rattle.jbig2_page.specs.inner.KeptViews.{found_value};
 ghost use Rattle.jbig2_page.specs.Page.{ReadPage};
 ghost use Rattle.jbig2_page.specs.Returned.{IsReturned};
 ghost use Rattle.jbig2_page.specs.inner.PageViews.{kept_names};
 ghost use Rattle.jbig2_page.specs.Causes.{BreaksBook};
+ghost use Rattle.jbig2_page.specs.Globals.{names_of};
 ghost use Rattle.hayro_jbig2.specs.WorkLimit.{TakesUnits, TakesShared};
 ghost use Rattle.jbig2_base.specs.Causes.{HasCauseOrNoMemory};
 

@@ -6,10 +6,10 @@ ghost use Rattle.jbig2_framing.specs.Reading.{reading_of};
 ghost use Rattle.jbig2_base.specs.declared.error.DecodeError.TheVariants.{OutOfMemory};
 ghost use Rattle.jbig2_framing.specs.declared.reading.Reading.TheVariants.{Salvage};
 ghost use Rattle.hayro_jbig2.specs.WorkLimit.{TakesUnits};
-ghost use Rattle.jbig2_page.specs.Names.{globals_at};
 ghost use Rattle.jbig2_page.specs.Returned.{IsReturned};
 ghost use Rattle.jbig2_page.specs.inner.KeptViews.{found_value};
 ghost use Rattle.jbig2_page.specs.inner.PageViews.{given_names};
+ghost use Rattle.jbig2_page.specs.Globals.{globals_at};
 ghost use Rattle.jbig2_steps.specs.declared.prices.TheConstants as prices;
 
 use crate::settings::DecodeSettings;
@@ -31,7 +31,7 @@ pub struct Globals<A: Allocator> {
 }
 
 impl<A: Allocator> Model for Globals<A> {
-    ghost use Rattle.jbig2_page.specs.Names.{KeptGlobals};
+    ghost use Rattle.jbig2_page.specs.Globals.{KeptGlobals};
 
     ghost Value = { KeptGlobals };
 

@@ -8,7 +8,8 @@ ghost use Rattle.jbig2_page.specs.Page.{IsSide};
 ghost use Rattle.jbig2_page.specs.Returned.{IsReturned};
 ghost use Rattle.hayro_jbig2.specs.Readers.{IsLasting, IsReturnedOrIo, Opens, GivesAgain};
 ghost use Rattle.hayro_jbig2.specs.WorkLimit.{TakesUnits};
-ghost use Rattle.jbig2_page.specs.Image.{first_size, first_image, first_packed, packed_size};
+ghost use Rattle.jbig2_page.specs.FirstPage.{first_image, first_packed, first_size};
+ghost use Rattle.jbig2_page.specs.Image.{packed_size};
 
 pub(crate) mod jbig2_error;
 pub mod reading;
@@ -39,7 +40,7 @@ pub struct Jbig2Decoder<A: Allocator> {
 impl<A: Allocator> Model for Jbig2Decoder<A> {
     ghost use Rattle.std.specs.Prelude.{◌≡◌, Ok};
     ghost use Rattle.hayro_jbig2.specs.Readers.{Scan};
-    ghost use Rattle.jbig2_page.specs.Image.{first_size};
+    ghost use Rattle.jbig2_page.specs.FirstPage.{first_size};
 
     ghost Value = { Scan };
 
@@ -64,7 +65,7 @@ fn first_page_of<'f, A: Allocator>(file: &'f File<'_, A>) -> jbig2_base::error::
 }
 
 /// The width and the height of the first page.
-#[tactic(auto, unfolding(jbig2_page::specs::Image::first_page))]
+#[tactic(auto, unfolding(jbig2_page::specs::FirstPage::first_page))]
 fn first_size<A: Allocator + Clone>(
     alloc: A,
     bytes: &[u8],
@@ -80,7 +81,7 @@ fn first_size<A: Allocator + Clone>(
 }
 
 /// Writes the first page into `buf`, as `Page::read_image` does.
-#[tactic(auto, unfolding(jbig2_page::specs::Image::first_page))]
+#[tactic(auto, unfolding(jbig2_page::specs::FirstPage::first_page))]
 fn first_image<A: Allocator + Clone>(
     alloc: A,
     bytes: &[u8],
@@ -99,7 +100,7 @@ fn first_image<A: Allocator + Clone>(
 }
 
 /// Writes the first page into `buf`, as `Page::read_packed` does.
-#[tactic(auto, unfolding(jbig2_page::specs::Image::first_page))]
+#[tactic(auto, unfolding(jbig2_page::specs::FirstPage::first_page))]
 fn first_packed<A: Allocator + Clone>(
     alloc: A,
     bytes: &[u8],

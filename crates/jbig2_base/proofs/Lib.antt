@@ -1,4 +1,3 @@
-pub mod FromInput
 pub mod BitFieldLemmas
 pub mod BitLemmas
 pub mod BitmapCauses
@@ -8,7 +7,9 @@ pub mod Causes
 pub mod ColourLemmas
 mod CombineLemmas
 pub mod CountLemmas
+pub mod ErrorSteps
 pub mod FillLemmas
+pub mod FromInput
 pub mod GridLemmas
 pub mod LaneCounts
 pub mod MadeLemmas

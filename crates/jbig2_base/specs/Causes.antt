@@ -1,7 +1,7 @@
 -- The rule that the bytes break where a call refuses them (docs/FORMAT.md), one line for each error. A predicate
 -- `Breaks..` takes the bytes and an error. The function that refuses states by `HasCause` that its error has that
 -- cause.
-use Rattle.std.specs.Prelude.{◌≡◌, ◌<◌, ◌≤◌, ◌*◌, ◌⊎◌, ℕ, List, take, drop, Result, IfErr}
+use Rattle.std.specs.Prelude.{◌≡◌, ◌<◌, ◌≤◌, ◌*◌, ◌⊎◌, ℕ, List, take, drop, Result, Ok, IfErr}
 use Rattle.std.specs.Int.{Width, byte_len, from_be_bytes}
 use Rattle.jbig2_base.specs.Grid.{max_side}
 use Rattle.jbig2_base.specs.declared.error.DecodeError.{DecodeError}
@@ -16,6 +16,10 @@ HasCause result Breaks = IfErr result Breaks
 -- the same for a call that may run out of memory, which is no fault of the input
 unfoldable pub HasCauseOrNoMemory : {X : Type 0} → Result X DecodeError → (DecodeError → Type 0) → Type 0
 HasCauseOrNoMemory result Breaks = IfErr result (λ e. (e ≡ OutOfMemory) ⊎ Breaks e)
+
+-- the call succeeded, and this holds for its value
+abbrev pub After : {A : Type 0} → Result A DecodeError → (A → Type 0) → Type 0
+After {A} r P = (x : A) × (r ≡ Ok x) × P x
 
 abbrev pub number_in : Width → ℕ → List ℕ → ℕ  -- the number at this byte, high byte first
 number_in w place bytes = from_be_bytes w (take (byte_len w) (drop place bytes))

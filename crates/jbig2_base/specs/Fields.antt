@@ -2,7 +2,7 @@
 -- than there are gives `Parse(UnexpectedEof)`. `Parses` and `Takes` say how a parser's call changes its reader (our own
 -- rule).
 use Rattle.std.specs.Prelude.{ℕ, nat_lt, List, length, take, drop, Result, Ok, Err, ℤ, if◌then◌else◌, ◌≡◌, ◌≤◌, OnOk}
-use Rattle.std.specs.Prelude.{OnErr, pos, negsuc}
+use Rattle.std.specs.Prelude.{OnErr}
 use Rattle.std.specs.Int.{Width, byte_len, from_be_bytes, cast_signed}
 use Rattle.jbig2_base.specs.Results.{◌>>=◌, some_or, Returns, Gives}
 use Rattle.jbig2_base.specs.Bits.{Place, bits_left, bits_next, bits_on, start_of}
@@ -28,10 +28,6 @@ signed_at w bytes = number_at w bytes >>= λ (n, rest). Ok (cast_signed w n, res
 -- The next count bits as a number, or the error, and the place after them.
 abbrev pub bits_at : DecodeError → ℕ → Place → Result (ℕ × Place) DecodeError
 bits_at e count p = some_or e (bits_next count (bits_left p)) >>= λ n. Ok (n, bits_on count p)
-
-abbrev pub word_or : DecodeError → ℤ → Result ℤ DecodeError  -- a number that fits signed 32 bits, or the error
-word_or e (pos n) = if nat_lt n 2147483648 then Ok (pos n) else Err e
-word_or e (negsuc n) = if nat_lt n 2147483648 then Ok (negsuc n) else Err e
 
 -- The reader is after what it took, at the beginning of a byte. A call that refuses leaves it where it was.
 pub record Parses {X Y : Type 0} (old new : Place) (result : Result X DecodeError) (view : X → Y)

@@ -1,6 +1,6 @@
 -- What a definition gives: a value or the first error, and never `OutOfMemory`. Its steps follow each other by `>>=`,
 -- so the errors come in the order of the steps. Then: how the result of a call compares with that (our own rule).
-use Rattle.std.specs.Prelude.{◌≡◌, Bool, true, false, Option, Some, None, Result, Ok, Err, ◌⊎◌}
+use Rattle.std.specs.Prelude.{◌≡◌, Bool, true, false, Option, Some, None, Result, Ok, Err, ◌⊎◌, nat_lt, ℤ, if◌then◌else◌, pos, negsuc}
 use Rattle.jbig2_base.specs.declared.error.DecodeError.{DecodeError}
 use Rattle.jbig2_base.specs.declared.error.DecodeError.TheVariants.{OutOfMemory}
 
@@ -32,3 +32,7 @@ Returns view (Err e) meant = meant ≡ Err e
 abbrev pub Leaves : {X Y : Type 0} → Result X DecodeError → Y → Y → Type 0
 Leaves (Ok x) left meant = left ≡ meant
 Leaves (Err e) left meant = (e ≡ OutOfMemory) ⊎ (left ≡ meant)
+
+abbrev pub word_or : DecodeError → ℤ → Result ℤ DecodeError  -- a number that fits signed 32 bits, or the error
+word_or e (pos n) = if nat_lt n 2147483648 then Ok (pos n) else Err e
+word_or e (negsuc n) = if nat_lt n 2147483648 then Ok (negsuc n) else Err e

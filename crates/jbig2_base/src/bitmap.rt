@@ -1,6 +1,6 @@
 //! Packed bitmaps (T.88, 6): rows of pixels, which a few calls read and write.
 ghost use Rattle.std.specs.Prelude.{◌≡◌, ℕ, ◌+◌, ◌-◌, ◌*◌, ◌/◌, ◌^◌, ◌<◌, ◌≤◌, OnErr, Ok, false, length, slice_index};
-ghost use Rattle.jbig2_base.specs.Results.{Gives};
+ghost use Rattle.jbig2_base.specs.Results.{Gives, Returns};
 ghost use Rattle.jbig2_base.specs.Counts.{words_cleared, words_copied};
 ghost use Rattle.jbig2_base.specs.Grid.{Grid, blank, pixel_at, bit_number, part_or_overflow, blank_or_overflow, wide_or_overflow};
 ghost use Rattle.jbig2_base.specs.Counts.{words_of, wide_words_made, bitmap_made};
@@ -29,6 +29,18 @@ pub const MAX_DIMENSION: u32 = 65535;
 
 /// The most pixels of any bitmap (our own rule).
 pub const MAX_AREA: u64 = 65535 * 65535;
+
+/// Refuses a size that a bitmap can't have: a side above 65535 gives
+/// `OverflowError::BitmapDimension`.
+pub fn check_sides(width: u32, height: u32) -> Result<()>
+    ensures { let meant = blank_or_overflow width height false in
+        Returns (λ _. blank width height false) result meant }
+{
+    if width > MAX_DIMENSION || height > MAX_DIMENSION {
+        return Err(OverflowError::BitmapDimension.into());
+    }
+    Ok(())
+}
 
 /// A grid of black and white pixels.
 #[derive(Debug)]
@@ -145,9 +157,7 @@ impl<A: Allocator> Bitmap<A> {
         ensures err { OnErr result (self.new ≡ self.old) }
         ensures steps { steps.new ≡ bitmap_made width height steps.old }
     {
-        if width > MAX_DIMENSION || height > MAX_DIMENSION {
-            return Err(OverflowError::BitmapDimension.into());
-        }
+        check_sides(width, height)?;
         self.rows.refill(width, height, default_pixel, steps)
     }
 

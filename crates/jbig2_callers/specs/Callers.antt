@@ -9,9 +9,11 @@ use Rattle.jbig2_base.specs.declared.error.DecodeError.TheVariants.{Format, OutO
 use Rattle.jbig2_base.specs.declared.error.FormatError.TheVariants.{MissingPageInfo}
 use Rattle.jbig2_framing.specs.declared.reading.Reading.TheVariants.{Lenient}
 use Rattle.jbig2_page.specs.Files.{book_at, page_of}
-use Rattle.jbig2_page.specs.Image.{first_size, first_image, image_of_page}
-use Rattle.jbig2_page.specs.Names.{globals_at, names_of, no_names}
+use Rattle.jbig2_page.specs.Image.{image_of_page}
+use Rattle.jbig2_page.specs.Names.{no_names}
 use Rattle.jbig2_page.specs.Page.{page_from, grid_of_page}
+use Rattle.jbig2_page.specs.Globals.{globals_at, names_of}
+use Rattle.jbig2_page.specs.FirstPage.{first_image, first_size}
 use Rattle.hayro_jbig2.specs.declared.jbig2_decoder.jbig2_error.Jbig2Error.{Jbig2Error}
 use Rattle.hayro_jbig2.specs.declared.jbig2_decoder.jbig2_error.Jbig2Error.TheVariants.{Io, Decode}
 

@@ -2,7 +2,7 @@
 use Rattle.std.proofs.Common.{◌≡◌, ℕ, ◌-◌, ◌/◌, ◌^◌, ◌<◌, ◌≤◌, Bool, true, false, List, refl, sym}
 use mir.Val.{bool_byte}
 use Rattle.jbig2_base.specs.Grid.{bit_number}
-use Rattle.jbig2_coder.specs.Table.{qe_row}
+use Rattle.jbig2_coder.specs.QeTable.{qe_row}
 use Rattle.jbig2_coder.specs.Coder.{Context, Registers, choice, decision, renormd}
 use Rattle.jbig2_coder.proofs.Choices.{choice-quiet}
 

@@ -3,7 +3,7 @@
 use Rattle.std.proofs.Common.{◌≡◌, ℕ, ◌+◌, ◌-◌, ◌*◌, ◌/◌, ◌%◌, ◌^◌, ◌<◌, ◌≤◌, Bool, true, false, not, refl, ◌∙◌, arith, ⊎_elim, ◌⊎◌, inl, inr}
 use mathlib.Core.Bool.{beq}
 use Rattle.std.proofs.lemmas.Bool.{cases_lt, cases_Bool}
-use Rattle.jbig2_coder.specs.Table.{qe_row}
+use Rattle.jbig2_coder.specs.QeTable.{qe_row}
 use Rattle.jbig2_coder.specs.Coder.{Context, Choice, choice, likely_next, unlikely_next}
 use Rattle.jbig2_coder.specs.Encoder.{narrowed_interval}
 use Rattle.jbig2_coder.proofs.Rows.{IsRow, row_of-is_row}

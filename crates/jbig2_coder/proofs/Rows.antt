@@ -2,7 +2,7 @@
 use Rattle.std.proofs.Common.{◌≡◌, ℕ, ◌<◌, ◌≤◌, Bool, true, ◌&&◌, ltb, leb, refl, ap, ⊎_elim}
 use Rattle.std.proofs.lemmas.Bool.{agree_below_at, and_parts, ltb-true, leb-true, cases_lt}
 use Rattle.std.proofs.lemmas.List.{get_or_past}
-use Rattle.jbig2_coder.specs.Table.{QeData, rows, qe_row}
+use Rattle.jbig2_coder.specs.QeTable.{QeData, rows, qe_row}
 
 pub record IsRow (row : QeData) : Type 0 where
   pub some : 1 ≤ row.qe

@@ -4,7 +4,7 @@ use Rattle.std.proofs.Math.Nat.{mul-le-mul, mul-le-mul_left}
 use Rattle.std.proofs.lemmas.Bool.{cases_lt, and_from, and_left, and_right, true≢false}
 use Rattle.std.proofs.lemmas.Bool.Decides.{nat_tests}
 use Rattle.jbig2_coder.specs.inner.Ahead.{floor_of}
-use Rattle.jbig2_coder.specs.Table.{qe_row}
+use Rattle.jbig2_coder.specs.QeTable.{qe_row}
 use Rattle.jbig2_coder.specs.Coder.{Context, Registers, choice, decision, is_quiet, all_quiet}
 use Rattle.jbig2_coder.proofs.Choices.{choice-quiet}
 use Rattle.jbig2_coder.proofs.Decisions.{decision-quiet}

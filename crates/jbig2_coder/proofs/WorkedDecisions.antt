@@ -1,7 +1,7 @@
 -- Decisions that the definitions compute.
 use Rattle.std.specs.Prelude.{◌≡◌, [], ◌∷◌, true, false, refl}
 use Rattle.jbig2_coder.specs.Coder.{byte_at, byte_in, choice, decision, fresh, initial_registers, unlikely_next}
-use Rattle.jbig2_coder.specs.Table.{qe_row, rows}
+use Rattle.jbig2_coder.specs.QeTable.{qe_row, rows}
 
 -- row 8: from no bytes, the first symbol and its context afterwards
 symbol_of_nothing : (decision [] (initial_registers []) fresh).symbol ≡ true

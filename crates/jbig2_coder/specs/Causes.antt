@@ -55,6 +55,14 @@ abbrev pub BreaksNumber : List Member → List ℕ → DecodeError → Type 0  -
 BreaksNumber ms bits (Huffman UnexpectedOob) = Any (λ m. Begins bits m × (m.line.is_out_of_band ≡ true)) ms
 BreaksNumber ms bits e = BreaksValue ms bits e
 
+-- No value can be read there by this table (B.4), not even out of band: no code begins the bits, or bits are missing, or
+-- the value doesn't fit.
+abbrev pub BreaksValueAt : List Member → Place → DecodeError → Type 0
+BreaksValueAt table p e = BreaksValue table (bits_left p) e
+
+abbrev pub BreaksNumberAt : List Member → Place → DecodeError → Type 0  -- the same where no value may be out of band
+BreaksNumberAt table p e = BreaksNumber table (bits_left p) e
+
 -- A line of a custom table (B.2), this one or one of the n - 1 after it, begins below the maximum and has a fault: its
 -- two lengths are missing, or its range is above 31 bits, or the next low value does not fit signed 32 bits.
 abbrev pub BreaksSomeLine : ℕ → Header → ℤ → Place → Type 0

@@ -3,7 +3,7 @@
 -- decoder of `Coder` reads them back.
 use Rattle.std.specs.Prelude.{ℕ, suc, zero, ◌+◌, ◌-◌, ◌*◌, ◌/◌, ◌%◌, ◌^◌, Bool, true, false, not, if◌then◌else◌, ◌==◌}
 use Rattle.std.specs.Prelude.{nat_lt, nat_le, List, [], ◌∷◌, ◌++◌, reverse, map, slice_index_or, ◌≡◌}
-use Rattle.jbig2_coder.specs.Table.{qe_row}
+use Rattle.jbig2_coder.specs.QeTable.{qe_row}
 use Rattle.jbig2_coder.specs.Coder.{Context, likely_next, unlikely_next, Registers, fresh, decision, initial_registers}
 
 abbrev pub Writer : Type 0  -- C, the shifts until the next byte goes out (CT), and the bytes that went out, last first

@@ -4,6 +4,6 @@ pub mod CustomTable
 pub mod Encoder
 pub mod Integers
 pub mod PrefixCode
-pub mod Table
+pub mod QeTable
 pub mod Tables
 pub mod inner

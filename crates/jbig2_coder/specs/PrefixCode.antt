@@ -5,12 +5,11 @@ use Rattle.std.specs.Prelude.{not, ◌&&◌, ◌||◌, List, [], ◌∷◌, ◌+
 use Rattle.std.specs.Prelude.{None, is_some, Result, Ok, Err, if◌then◌else◌, ℤ, pos, ◌+ℤ◌, ◌-ℤ◌}
 use Rattle.jbig2_base.specs.Bits.{Place, bits_left, bits_next, bits_on, number_after}
 use Rattle.jbig2_base.specs.Search.{place_from}
-use Rattle.jbig2_base.specs.Results.{◌>>=◌}
+use Rattle.jbig2_base.specs.Results.{word_or, ◌>>=◌}
 use Rattle.jbig2_base.specs.declared.error.DecodeError.{DecodeError}
 use Rattle.jbig2_base.specs.declared.error.DecodeError.TheVariants.{Parse, Huffman}
 use Rattle.jbig2_base.specs.declared.error.ParseError.TheVariants.{UnexpectedEof}
 use Rattle.jbig2_base.specs.declared.error.HuffmanError.TheVariants.{InvalidCode, UnexpectedOob}
-use Rattle.jbig2_base.specs.Fields.{word_or}
 use Rattle.jbig2_coder.specs.declared.huffman_table.line.TableLine.{TableLine}
 
 -- A code: how many bits it has, the number that they make, high bit first, and its line in the table.
@@ -118,6 +117,12 @@ no_oob (Err e) = Err e
 
 abbrev pub without_oob : CodeReading (Option ℤ) → CodeReading ℤ
 without_oob reading = record { result = no_oob reading.result; taken = reading.taken }
+
+-- a number with a prefix code of this table (B.4), and the place after it; out of band is refused
+abbrev pub value_at : List Member → Place → Result (ℤ × Place) DecodeError
+value_at table p =
+    let read = decoded_value table (bits_left p) in
+    no_oob read.result >>= λ n. Ok (n, bits_on read.taken p)
 
 abbrev pub AreShort : List TableLine → Type 0  -- one read of bits can take each range length
 AreShort lines = All (λ x. x.range_length ≤ 32) lines

@@ -2,8 +2,8 @@ pub mod Ahead
 pub mod CodeReadings
 pub mod EncoderViews
 pub mod FirstCodes
+pub mod IntegerPrefixes
 pub mod IntegerStates
 pub mod PrefixLevels
-pub mod Prefixes
 pub mod States
 pub mod TableViews

@@ -1,8 +1,8 @@
 //! Builds tables of prefix codes, and reads values by them (T.88, Annex B).
 ghost use Rattle.std.specs.Prelude.{◌≡◌, ◌≤◌, ◌^◌, drop, IfOk, Ok};
-ghost use Rattle.jbig2_base.specs.Results.{Gives};
+ghost use Rattle.jbig2_base.specs.Results.{Gives, Returns};
 ghost use Rattle.jbig2_base.specs.Bits.{bits_left};
-ghost use Rattle.jbig2_coder.specs.PrefixCode.{table_of, read_code, decoded_value, without_oob, AreShort, IsFree, Reads};
+ghost use Rattle.jbig2_coder.specs.PrefixCode.{table_of, read_code, decoded_value, value_at, without_oob, AreShort, IsFree, Reads};
 ghost use Rattle.jbig2_coder.specs.Tables.{uniform};
 ghost use Rattle.jbig2_coder.specs.CustomTable.{custom_table, GivesAt, TablesAreFree};
 ghost use Rattle.jbig2_coder.specs.Causes.{BreaksCode, BreaksCustom, BreaksNumber, BreaksTable};
@@ -160,6 +160,8 @@ impl<A: Allocator> HuffmanTable<A> {
     pub fn decode_no_oob(&self, reader: &mut Reader<'_>) -> Result<i32>
         ensures reads { Reads reader.old reader.new result
             (without_oob (decoded_value self.now (bits_left reader.old))) }
+        ensures number { let meant = value_at self.now reader.old in
+            Returns (λ n. (n, reader.new)) result meant }
         ensures causes { HasCause result (BreaksNumber self.now (bits_left reader.old)) }
     {
         let Some(value) = self.decode(reader)? else {

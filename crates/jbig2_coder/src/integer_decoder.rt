@@ -5,7 +5,7 @@ ghost use Rattle.jbig2_base.specs.Results.{Gives};
 ghost use Rattle.jbig2_base.specs.Grid.{bit_number};
 ghost use Rattle.jbig2_coder.specs.Coder.{fresh};
 ghost use Rattle.jbig2_coder.specs.Integers.{value_of_bits, next, read, read_more, prev_of, value_of, integer};
-ghost use Rattle.jbig2_coder.specs.inner.Prefixes.{prefix, range_of};
+ghost use Rattle.jbig2_coder.specs.inner.IntegerPrefixes.{prefix, range_of};
 ghost use Rattle.jbig2_coder.specs.inner.IntegerStates.{ReadsOn, IfRead, prev_next};
 
 use crate::arithmetic_decoder::{ArithmeticDecoder, ArithmeticDecoderContext};
@@ -68,7 +68,7 @@ impl<A: Allocator> IntegerDecoder<A> {
 }
 
 // How many bits the value has, and the least number of the range (Table A.1).
-#[tactic(auto, unfolding(crate::specs::inner::Prefixes::range_of, crate::specs::Integers::ranges))]
+#[tactic(auto, unfolding(crate::specs::inner::IntegerPrefixes::range_of, crate::specs::Integers::ranges))]
 fn range(ones: u32) -> (u32, u32)
     ensures bits { result.0 ≡ (range_of ones).bits }
     ensures offset { result.1 ≡ (range_of ones).offset }

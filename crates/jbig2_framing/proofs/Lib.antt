@@ -1,6 +1,7 @@
 pub mod Agreeing
 pub mod AgreeingCutOffs
 pub mod AgreeingSegments
+pub mod ByteCauses
 pub mod DataCauses
 mod Extends
 pub mod FileHeaderCauses

@@ -1,3 +1,4 @@
+pub mod ByteCauses
 pub mod Causes
 pub mod CutOff
 pub mod File

@@ -1,7 +1,7 @@
 pub mod CellPlaces
 pub mod DictionaryViews
 pub mod FunctionResults
+pub mod GrayScaleViews
 pub mod HalftoneHeaderViews
-pub mod HalftoneViews
 pub mod NextValues
 pub mod PatternViews

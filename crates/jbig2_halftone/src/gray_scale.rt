@@ -4,7 +4,7 @@ ghost use Rattle.jbig2_steps.specs.Work.{CountsWithin};
 ghost use Rattle.jbig2_base.specs.Results.{Gives, Leaves};
 ghost use Rattle.jbig2_halftone.specs.GrayScale.{gray_values, gray_scale_image, gray_contexts, GrayScale};
 ghost use Rattle.jbig2_halftone.specs.Steps.{CountsImage, CountsLanes, StopsImage, cleared_by_planes, price_of_image};
-ghost use Rattle.jbig2_halftone.specs.inner.HalftoneViews.{gray_view};
+ghost use Rattle.jbig2_halftone.specs.inner.GrayScaleViews.{gray_view};
 ghost use Rattle.jbig2_base.specs.Causes.{HasCauseOrNoMemory};
 ghost use Rattle.jbig2_halftone.specs.Causes.{BreaksGrayScale};
 

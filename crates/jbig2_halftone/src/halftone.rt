@@ -7,7 +7,7 @@ ghost use Rattle.jbig2_base.specs.Counts.{WritesWithin, bitmap_made, most_words,
 ghost use Rattle.jbig2_base.specs.Combination.{combined_grid};
 ghost use Rattle.jbig2_base.specs.Grid.{blank, max_side};
 ghost use Rattle.jbig2_region.specs.inner.RegionViews.{region_view, skip_of};
-ghost use Rattle.jbig2_halftone.specs.inner.HalftoneViews.{gray_view};
+ghost use Rattle.jbig2_halftone.specs.inner.GrayScaleViews.{gray_view};
 ghost use Rattle.jbig2_halftone.specs.GrayScale.{gray_scale_image};
 ghost use Rattle.jbig2_halftone.specs.Halftone.{gray_params, skip_mask, pattern_for, cells_drawn, halftone_result, halftone_contexts, halftone_decoded, decoded_contexts};
 ghost use Rattle.jbig2_halftone.specs.HalftoneHeader.{HalftoneHeader};

@@ -13,8 +13,8 @@ use Rattle.jbig2_base.specs.inner.BitLists.{AreBits}
 use Rattle.jbig2_base.proofs.GridLemmas.{grid_of-ext}
 use Rattle.jbig2_mmr.specs.T6Codes.{word}
 use Rattle.jbig2_mmr.specs.T6.{Rows, row, pixel_of, black_at, ends_block, bits_of, rows_from, rows_of, grid_of_rows, DecodedRows, mmr_rows}
-use Rattle.jbig2_inverses.specs.RowWriter.{row_bits}
-use Rattle.jbig2_inverses.specs.BitmapWriter.{rows_bits, packed, mmr_bits, mmr_bytes, BitmapsAreShort, BitmapsReadBack}
+use Rattle.jbig2_inverses.specs.MmrRowWriter.{row_bits}
+use Rattle.jbig2_inverses.specs.MmrWriter.{rows_bits, packed, mmr_bits, mmr_bytes, BitmapsAreShort, BitmapsReadBack}
 use Rattle.jbig2_inverses.proofs.Packing.{length-packed, packed-bits}
 use Rattle.jbig2_inverses.proofs.RowBits.{are-bits, bits-both}
 use Rattle.jbig2_inverses.proofs.RowInverse.{reads-row, row-are-bits, row-length, row-no_end}

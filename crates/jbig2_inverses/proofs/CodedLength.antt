@@ -4,7 +4,7 @@ use Rattle.std.proofs.lemmas.Bool.{cases_eq, cond_both, cond-false, cond-true, e
 use Rattle.std.proofs.Math.Nat.{le_trans, mul-le-mul_right, pow-suc}
 use Rattle.std.proofs.lemmas.List.{length-reverse}
 use Rattle.jbig2_coder.specs.Coder.{Context, fresh, likely_next, unlikely_next}
-use Rattle.jbig2_coder.specs.Table.{qe_row}
+use Rattle.jbig2_coder.specs.QeTable.{qe_row}
 use Rattle.jbig2_coder.specs.Encoder.{Writer, EncoderState, Narrowed, initial_coding, eight_bits_out, seven_bits_out, byte_out, shift_once, renorme, narrowed_likely, narrowed_unlikely, narrowed_interval, encoding, set_bits, flush_coder, is_full, with_marker, with_context, encode_from, encoded_bytes}
 use Rattle.jbig2_inverses.specs.CoderStates.{Entry, CodedDataIsShort}
 use Rattle.jbig2_inverses.proofs.RowCredits.{costs, credit, first-credit}

@@ -18,7 +18,7 @@ use Rattle.jbig2_region.specs.Templates.{FitsTemplate, context_bits, row_context
 use Rattle.jbig2_region.specs.Generic.{generic_coding, generic_region, generic_grid, generic_result}
 use Rattle.jbig2_region.proofs.ContextLemmas.{context-lt}
 use Rattle.jbig2_inverses.specs.CoderStates.{Entry, State, initial_state, GivesDecisions}
-use Rattle.jbig2_inverses.specs.BitmapWriter.{mmr_bytes}
+use Rattle.jbig2_inverses.specs.MmrWriter.{mmr_bytes}
 use Rattle.jbig2_inverses.specs.RegionWriter.{pixels_before, entries_before, IsCodable, row_above, same_rows, is_typical, generic_entries, GenericRegionsReadBack}
 use Rattle.jbig2_inverses.proofs.CoderStates.{gives-encoded, window-fresh}
 use Rattle.jbig2_inverses.proofs.BitmapInverse.{bitmaps_read_back}

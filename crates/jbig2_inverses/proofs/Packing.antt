@@ -8,7 +8,7 @@ use Rattle.jbig2_base.specs.Bits.{byte_bits, number_after}
 use Rattle.jbig2_base.specs.inner.BitLists.{AreBits}
 use Rattle.jbig2_base.proofs.BitFieldLemmas.{bits-drop, bits-take}
 use Rattle.jbig2_base.proofs.NumberLemmas.{number-front, number-lt}
-use Rattle.jbig2_inverses.specs.BitmapWriter.{packed}
+use Rattle.jbig2_inverses.specs.MmrWriter.{packed}
 use Rattle.jbig2_inverses.specs.Digits.{digits}
 use Rattle.jbig2_inverses.proofs.RowBits.{bits-both}
 

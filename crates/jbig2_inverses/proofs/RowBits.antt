@@ -9,7 +9,7 @@ use Rattle.jbig2_mmr.specs.declared.mmr.codes.Mode.{Mode}
 use Rattle.jbig2_mmr.specs.declared.mmr.codes.Mode.TheVariants.{Pass, Horizontal}
 use Rattle.jbig2_mmr.specs.T6Codes.{modes, longer_runs, white_runs, black_runs, vertical_right, vertical_left}
 use Rattle.jbig2_mmr.specs.T6.{runs_of, ends_block}
-use Rattle.jbig2_inverses.specs.RowWriter.{word_of, same_mode, mode_word, run_word, repeated, run_bits}
+use Rattle.jbig2_inverses.specs.MmrRowWriter.{word_of, same_mode, mode_word, run_word, repeated, run_bits}
 
 -- ---- an end of block begins with eleven zeros
 late : (f n len : ℕ) (tail : List ℕ) → 1 ≤ f → 13 ≤ n → (24 ≤ len → n ≤ length tail) → (leb 24 len && eqb (number_after f (take n tail)) 0x001001) ≡ false

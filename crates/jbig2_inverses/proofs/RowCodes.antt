@@ -6,7 +6,7 @@ use Rattle.std.proofs.lemmas.List.{drop_at}
 use Rattle.jbig2_mmr.specs.declared.mmr.codes.Mode.TheVariants.{Pass, Horizontal}
 use Rattle.jbig2_mmr.specs.T6Codes.{modes, longer_runs, white_runs, black_runs, vertical_right, vertical_left}
 use Rattle.jbig2_mmr.specs.T6.{begins, read_code, is_prefix_free, runs_of, run, run_from, ◌>>=◌}
-use Rattle.jbig2_inverses.specs.RowWriter.{word_of, mode_word, run_word, repeated, run_bits}
+use Rattle.jbig2_inverses.specs.MmrRowWriter.{word_of, mode_word, run_word, repeated, run_bits}
 
 -- ---- modes
 pub pass-read : (left : List ℕ) → read_code modes (mode_word Pass ++ left) ≡ Some (Pass, left)

@@ -3,7 +3,7 @@
 use Rattle.std.proofs.Common.{◌≡◌, ℕ, ◌+◌, ◌-◌, ◌*◌, ◌^◌, ◌<◌, ◌≤◌, Bool, true, ◌&&◌, leb, List, [], ◌∷◌, get_or, refl, ap, ◌∙◌, ⊎_elim}
 use Rattle.std.proofs.lemmas.Bool.{agree_below_at, and_parts, leb-true, cases_lt}
 use Rattle.std.proofs.lemmas.List.{get_or_past}
-use Rattle.jbig2_coder.specs.Table.{QeData, rows, qe_row}
+use Rattle.jbig2_coder.specs.QeTable.{QeData, rows, qe_row}
 
 credits : List ℕ
 credits =

@@ -6,7 +6,7 @@ use Rattle.jbig2_base.specs.inner.BitLists.{AreBits}
 use Rattle.jbig2_mmr.specs.T6Codes.{modes}
 use Rattle.jbig2_mmr.specs.T6.{Head, Step, read_code, row, pixel_of, row_from, row_start, next_step, ends_block, black_at, ◌>>=◌}
 use Rattle.jbig2_mmr.proofs.T6Rows.{change-none}
-use Rattle.jbig2_inverses.specs.RowWriter.{Code, code_of, bits_from, row_bits, RowsReadBack}
+use Rattle.jbig2_inverses.specs.MmrRowWriter.{Code, code_of, bits_from, row_bits, RowsReadBack}
 use Rattle.jbig2_inverses.proofs.RowBits.{bits-both}
 use Rattle.jbig2_inverses.proofs.RowModes.{Done, Follows, measure, room_of, follows}
 

@@ -6,7 +6,7 @@ use Rattle.jbig2_mmr.specs.declared.mmr.codes.Mode.{Mode}
 use Rattle.jbig2_mmr.specs.declared.mmr.codes.Mode.TheVariants.{Pass, Horizontal}
 use Rattle.jbig2_mmr.specs.T6Codes.{modes, longer_runs, white_runs, black_runs}
 use Rattle.jbig2_mmr.specs.T6.{runs_of}
-use Rattle.jbig2_inverses.specs.RowWriter.{word_of, same_mode, mode_word, run_word, repeated, run_bits}
+use Rattle.jbig2_inverses.specs.MmrRowWriter.{word_of, same_mode, mode_word, run_word, repeated, run_bits}
 
 word-length : {A : Type 0} (most : ℕ) (is : A → Bool) (codes : List (A × List ℕ)) → list_all (λ e. leb (length e.1) most) codes ≡ true → length (word_of is codes) ≤ most
 unfolding word_of

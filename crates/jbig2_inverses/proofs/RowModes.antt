@@ -11,7 +11,7 @@ use Rattle.jbig2_mmr.specs.T6Codes.{modes, vertical_right, vertical_left}
 use Rattle.jbig2_mmr.specs.T6.{Head, Step, read_code, run, place_in, ends_block, after_runs, after_pass, after_vertical, b1_of, b2_of, next_step, is_change, is_change_from, black_at, ◌>>=◌}
 use Rattle.jbig2_mmr.specs.inner.T6Reading.{IsTurn}
 use Rattle.jbig2_mmr.proofs.T6Rows.{changes-both, step-by, pass-turn, vertical-turn, runs-turn}
-use Rattle.jbig2_inverses.specs.RowWriter.{Code, mode_word, run_bits, next_other, code_of}
+use Rattle.jbig2_inverses.specs.MmrRowWriter.{Code, mode_word, run_bits, next_other, code_of}
 use Rattle.jbig2_inverses.proofs.RowBits.{pass-no_end, horizontal-no_end, right-no_end, left-no_end, mode-bits, run-bits, bits-both}
 use Rattle.jbig2_inverses.proofs.RowLengths.{mode-length, pass-length, horizontal-length, runs-length, run-length}
 use Rattle.jbig2_inverses.proofs.RowCodes.{pass-read, horizontal-read, right-read, left-read, run-read}

@@ -4,7 +4,7 @@ use Rattle.std.specs.Prelude.{codes}
 use Rattle.jbig2_base.specs.Search.{least}
 use Rattle.jbig2_mmr.specs.T6Codes.{word, modes, longer_runs, white_runs, black_runs}
 use Rattle.jbig2_mmr.specs.T6.{pixel_of, is_change, is_change_from, b1_of, b2_of, black_at}
-use Rattle.jbig2_inverses.specs.RowWriter.{word_of, run_bits, code_of, bits_from, row_bits}
+use Rattle.jbig2_inverses.specs.MmrRowWriter.{word_of, run_bits, code_of, bits_from, row_bits}
 
 -- eight black pixels under a white row: the horizontal mode, no white pixel, eight black ones
 black_row : row_bits 8 (λ x. false) (λ x. true) ≡ word (codes "00100110101000101")

@@ -1,11 +1,11 @@
-pub mod BitmapWriter
 pub mod CoderStates
 pub mod Digits
 pub mod FileWriter
 pub mod GenericSegmentWriter
 pub mod IntegerWriter
+pub mod MmrRowWriter
+pub mod MmrWriter
 pub mod PrefixWriter
 pub mod RegionWriter
-pub mod RowWriter
 pub mod SegmentWriter
 pub mod SequenceWriter

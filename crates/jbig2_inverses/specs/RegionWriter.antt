@@ -9,7 +9,7 @@ use Rattle.jbig2_region.specs.Raster.{Coding, so_far, no_pixels, decoded_region}
 use Rattle.jbig2_region.specs.Templates.{FitsTemplate}
 use Rattle.jbig2_region.specs.Generic.{generic_coding, generic_result}
 use Rattle.jbig2_inverses.specs.CoderStates.{Entry, State, asked, GivesDecisions, state_after, window}
-use Rattle.jbig2_inverses.specs.BitmapWriter.{mmr_bytes}
+use Rattle.jbig2_inverses.specs.MmrWriter.{mmr_bytes}
 
 abbrev pub known_or : Option Bool → Entry → List Entry  -- no decision for a pixel whose colour is known
 known_or (Some colour) entry = []

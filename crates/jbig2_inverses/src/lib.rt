@@ -2,14 +2,14 @@
 //! definitions of writing and reading, and it holds for all values.
 #![tactic(auto)]
 
-ghost use Rattle.jbig2_inverses.specs.BitmapWriter.{BitmapsAreShort, BitmapsReadBack};
+ghost use Rattle.jbig2_inverses.specs.MmrWriter.{BitmapsAreShort, BitmapsReadBack};
 ghost use Rattle.jbig2_inverses.specs.CoderStates.{CodedDataIsShort};
 ghost use Rattle.jbig2_inverses.specs.FileWriter.{FilesReadBack};
 ghost use Rattle.jbig2_inverses.specs.GenericSegmentWriter.{GenericSegmentsReadBack};
 ghost use Rattle.jbig2_inverses.specs.IntegerWriter.{IntegersReadBack, SymbolIdsReadBack};
 ghost use Rattle.jbig2_inverses.specs.PrefixWriter.{PrefixCodesReadBack};
 ghost use Rattle.jbig2_inverses.specs.RegionWriter.{GenericRegionsReadBack, RegionsReadBack};
-ghost use Rattle.jbig2_inverses.specs.RowWriter.{RowsReadBack};
+ghost use Rattle.jbig2_inverses.specs.MmrRowWriter.{RowsReadBack};
 ghost use Rattle.jbig2_inverses.specs.SegmentWriter.{PageInformationReadsBack, SegmentsReadBack};
 ghost use Rattle.jbig2_inverses.specs.SequenceWriter.{SequencesReadBack};
 

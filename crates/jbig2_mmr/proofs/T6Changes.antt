@@ -11,7 +11,8 @@ use Rattle.jbig2_base.specs.Bits.{bit}
 use Rattle.jbig2_base.proofs.BitLemmas.{bit-above, bit-and, bit-or, bit-shl_high, bit-shl_low, bit-shr, bit-xor, bit-zero, or-false}
 use Rattle.jbig2_base.proofs.ColourLemmas.{leading-is, ones-bit, ones-lt}
 use Rattle.jbig2_base.proofs.SearchLemmas.{place-is, place-past}
-use Rattle.{jbig2_base.specs.Grid.{differ}, jbig2_mmr.specs.T6.{left_of, is_change, is_change_from}}
+use Rattle.jbig2_base.specs.Grid.{differ}
+use Rattle.jbig2_mmr.specs.T6.{left_of, is_change, is_change_from}
 use Rattle.jbig2_mmr.proofs.T6Rows.{left-here}
 
 -- ---- pixels and their left neighbours

@@ -2,7 +2,7 @@
 use Rattle.std.proofs.Common.{◌≡◌, ℕ, ◌+◌, ◌^◌, ◌<◌, ℤ, pos, SFits, to_z, of_z, w32, w64, rules, ◌≤◌, ap, ◌∙◌, arith}
 use Rattle.std.specs.Prelude.{◌+ℤ◌, ◌-ℤ◌, ◌≤ℤ◌}
 use Rattle.std.proofs.lemmas.Int.{ints, to_z-of_z}
-use Rattle.jbig2_mmr.specs.inner.T6Steps.{IsWithinThree}
+use Rattle.jbig2_mmr.specs.inner.T6Reading.{IsWithinThree}
 
 -- a small difference fits its type
 pub distance-is : (kind : ℕ) (z : ℤ) → kind < 32 → z ≡ pos kind → to_z w32 (of_z w32 (to_z w32 (of_z w32 z) -ℤ pos 6)) ≡ pos kind -ℤ pos 6

@@ -13,7 +13,8 @@ use Rattle.jbig2_base.proofs.SearchLemmas.{place-is, place-past}
 use Rattle.jbig2_mmr.specs.declared.mmr.codes.Mode.{Mode}
 use Rattle.jbig2_mmr.specs.declared.mmr.row.Turn.{Turn}
 use Rattle.jbig2_base.specs.Search.{place_from}
-use Rattle.{jbig2_base.specs.Grid.{differ}, jbig2_mmr.specs.T6.{left_of, is_change, Head, Step, b1_of, b2_of, run, after_pass, after_runs, after_vertical, place_in, after_mode, next_step, read_code, row_from, row_start, black_at, ◌>>=◌}}
+use Rattle.jbig2_base.specs.Grid.{differ}
+use Rattle.jbig2_mmr.specs.T6.{left_of, is_change, Head, Step, b1_of, b2_of, run, after_pass, after_runs, after_vertical, place_in, after_mode, next_step, read_code, row_from, row_start, black_at, ◌>>=◌}
 use Rattle.jbig2_mmr.specs.T6Codes.{modes}
 use Rattle.jbig2_mmr.specs.inner.T6Reading.{row_above, pixels_of_row, IsSpan, IsTurn, ReadRun}
 use Rattle.jbig2_mmr.specs.inner.T6Calls.{head_of, ReadStep, ReadRow}

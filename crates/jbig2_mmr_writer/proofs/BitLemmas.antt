@@ -6,7 +6,7 @@ use Rattle.std.proofs.lemmas.List.Elements.{All-head, All-push, All-same, All-ta
 use Rattle.std.proofs.lemmas.Grind.{flat_map-append}
 use Rattle.jbig2_base.specs.Bits.{byte_bits, number_after}
 use Rattle.jbig2_base.proofs.NumberLemmas.{length-bits}
-use Rattle.jbig2_inverses.specs.BitmapWriter.{packed}
+use Rattle.jbig2_inverses.specs.MmrWriter.{packed}
 use Rattle.jbig2_inverses.specs.Digits.{digits}
 use Rattle.jbig2_inverses.proofs.Digits.{length-digits}
 

@@ -6,7 +6,7 @@ use Rattle.jbig2_base.proofs.SearchLemmas.{place-past}
 use Rattle.jbig2_mmr.specs.declared.mmr.codes.Mode.TheVariants.{Horizontal, Pass}
 use Rattle.jbig2_mmr.specs.T6.{Head, b1_of, b2_of, is_change, is_change_from}
 use Rattle.jbig2_mmr.specs.T6Codes.{vertical_left, vertical_right}
-use Rattle.jbig2_inverses.specs.RowWriter.{Code, code_of, mode_word, next_other, run_bits}
+use Rattle.jbig2_inverses.specs.MmrRowWriter.{Code, code_of, mode_word, next_other, run_bits}
 use Rattle.jbig2_mmr_writer.proofs.CutLemmas.{place-after, place-cut, place-within}
 
 abbrev pub pass_code : ℕ → Head → Code

@@ -7,7 +7,7 @@ use Rattle.std.proofs.lemmas.Bool.{and_parts, ltb-true}
 use Rattle.jbig2_mmr.specs.T6Codes.{modes, longer_runs, white_runs, black_runs, vertical_left, vertical_right}
 use Rattle.jbig2_mmr.specs.declared.mmr.codes.Mode.TheVariants.{Horizontal, Pass}
 use Rattle.jbig2_inverses.specs.Digits.{digits}
-use Rattle.jbig2_inverses.specs.RowWriter.{mode_word, run_word, word_of}
+use Rattle.jbig2_inverses.specs.MmrRowWriter.{mode_word, run_word, word_of}
 use Rattle.jbig2_mmr_writer.specs.declared.codes.TheConstants.{BLACK_ENDS, BLACK_PARTS, HORIZONTAL, LEFT, PASS, RIGHT, WHITE_ENDS, WHITE_PARTS}
 use Rattle.jbig2_mmr_writer.specs.inner.Entries.{word_of_entry}
 

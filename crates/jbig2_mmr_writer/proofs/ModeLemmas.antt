@@ -8,7 +8,7 @@ use Rattle.jbig2_base.specs.Search.{place_from}
 use Rattle.jbig2_mmr.specs.T6.{Head, is_change, is_change_from}
 use Rattle.jbig2_mmr.specs.declared.mmr.codes.Mode.TheVariants.{Horizontal}
 use Rattle.jbig2_mmr.specs.inner.T6Reading.{pixels_of_row}
-use Rattle.jbig2_inverses.specs.RowWriter.{Code, mode_word, run_bits}
+use Rattle.jbig2_inverses.specs.MmrRowWriter.{Code, mode_word, run_bits}
 use Rattle.jbig2_mmr_writer.specs.declared.changes.Place.{Place}
 use Rattle.jbig2_mmr_writer.specs.declared.codes.TheConstants.{HORIZONTAL, PASS}
 use Rattle.jbig2_mmr_writer.specs.inner.Entries.{word_of_entry}

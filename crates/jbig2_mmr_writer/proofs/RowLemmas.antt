@@ -6,9 +6,9 @@ use Rattle.jbig2_base.specs.Table.{IsTable}
 use Rattle.jbig2_base.proofs.GridLemmas.{pixel_at-right}
 use Rattle.jbig2_mmr.specs.T6.{Head, mmr_rows, row_start}
 use Rattle.jbig2_mmr.specs.inner.T6Reading.{row_above, pixels_of_row}
-use Rattle.jbig2_inverses.specs.BitmapWriter.{mmr_bits, mmr_bytes, packed, rows_bits}
+use Rattle.jbig2_inverses.specs.MmrWriter.{mmr_bits, mmr_bytes, packed, rows_bits}
 use Rattle.jbig2_inverses.specs.Digits.{digits}
-use Rattle.jbig2_inverses.specs.RowWriter.{bits_from, code_of, row_bits}
+use Rattle.jbig2_inverses.specs.MmrRowWriter.{bits_from, code_of, row_bits}
 use Rattle.jbig2_inverses.proofs.BitmapInverse.{bitmaps_read_back}
 use Rattle.jbig2_mmr_writer.specs.Written.{ReadsBack}
 

@@ -1,7 +1,7 @@
 -- A run, code by code.
 use Rattle.std.proofs.Common.{◌≡◌, ℕ, zero, suc, ◌+◌, ◌*◌, ◌/◌, ◌%◌, ◌<◌, ◌≤◌, ltb, Bool, cond, List, [], ◌++◌, refl, sym, ◌∙◌, ap, append_assoc, append-nil, arith, lt-ltb, le-ltb}
 use Rattle.std.proofs.lemmas.Bool.{cond-true, cond-false}
-use Rattle.jbig2_inverses.specs.RowWriter.{repeated, run_bits, run_word}
+use Rattle.jbig2_inverses.specs.MmrRowWriter.{repeated, run_bits, run_word}
 
 repeated-more : (n : ℕ) (word : List ℕ) → repeated (suc n) word ≡ repeated n word ++ word
 repeated-more zero word = append-nil word

@@ -1,7 +1,7 @@
 //! Writes a whole bitmap, row by row (T.88, 6.2.6).
 ghost use Rattle.std.specs.Prelude.{◌≡◌, ◌+◌, ◌*◌, ◌≤◌, ◌++◌, [], if◌then◌else◌, IfOk, OnOk};
 ghost use Rattle.jbig2_base.specs.Grid.{max_side, pixel_at};
-ghost use Rattle.jbig2_inverses.specs.BitmapWriter.{mmr_bytes};
+ghost use Rattle.jbig2_inverses.specs.MmrWriter.{mmr_bytes};
 ghost use Rattle.jbig2_inverses.specs.Digits.{digits};
 ghost use Rattle.jbig2_mmr_writer.specs.Written.{ReadsBack};
 

@@ -1,6 +1,6 @@
 //! Writes bits into bytes, and codes as bits.
 ghost use Rattle.std.specs.Prelude.{◌≡◌, ◌+◌, ◌/◌, ◌%◌, ◌^◌, ◌<◌, ◌≤◌, ◌++◌, [], length, IfOk, OnOk};
-ghost use Rattle.jbig2_inverses.specs.BitmapWriter.{packed};
+ghost use Rattle.jbig2_inverses.specs.MmrWriter.{packed};
 ghost use Rattle.jbig2_inverses.specs.Digits.{digits};
 ghost use Rattle.jbig2_mmr_writer.specs.inner.Entries.{word_of_entry};
 

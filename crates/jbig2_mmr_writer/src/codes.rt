@@ -2,7 +2,7 @@
 //!
 //! An entry is 16 times the number that the bits of a code word make, plus its size in bits.
 ghost use Rattle.std.specs.Prelude.{◌≡◌, ◌+◌, ◌-◌, ◌*◌, ◌/◌, ◌%◌, ◌^◌, ◌<◌, ◌≤◌, ◌++◌, nat_le, if◌then◌else◌, OnOk};
-ghost use Rattle.jbig2_inverses.specs.RowWriter.{mode_word, run_bits, run_word};
+ghost use Rattle.jbig2_inverses.specs.MmrRowWriter.{mode_word, run_bits, run_word};
 ghost use Rattle.jbig2_mmr.specs.T6Codes.{vertical_left, vertical_right};
 ghost use Rattle.jbig2_mmr_writer.specs.inner.Entries.{word_of_entry};
 

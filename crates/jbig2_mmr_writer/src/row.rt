@@ -1,7 +1,7 @@
 //! Writes one row, mode by mode (T.6, 2.2).
 ghost use Rattle.std.specs.Prelude.{◌≡◌, ℕ, ◌+◌, ◌-◌, ◌*◌, ◌/◌, ◌<◌, ◌≤◌, ◌++◌, IfOk, OnErr, OnOk, true};
 ghost use Rattle.jbig2_base.specs.Grid.{max_side};
-ghost use Rattle.jbig2_inverses.specs.RowWriter.{row_bits};
+ghost use Rattle.jbig2_inverses.specs.MmrRowWriter.{row_bits};
 ghost use Rattle.jbig2_mmr.specs.T6.{row_start};
 ghost use Rattle.jbig2_mmr.specs.inner.T6Reading.{row_above, pixels_of_row};
 ghost use Rattle.jbig2_mmr_writer.specs.inner.Places.{AddsMode, IsPlace, head_of, horizontal_code, next_code};

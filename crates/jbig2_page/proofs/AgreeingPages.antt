@@ -41,7 +41,7 @@ use Rattle.jbig2_text.specs.TextHeader.{TextHeader, text_header_at}
 use Rattle.jbig2_text.specs.TextRegion.{text_decoded}
 use Rattle.jbig2_page.specs.Files.{PageInFile, ReadFile, association_check, book_at, by_pages, ends_of, before_pages, pages_in_file, page_in_file, cut_off_of, lacks_page, left_out_of, miscounts, of_page, page_in, page_of, part_of_file, segments_at, shared_by, with_part}
 use Rattle.jbig2_page.specs.Lenient.{LenientReadingAgrees, ReadingsAgree, SalvageAgrees}
-use Rattle.jbig2_page.specs.Names.{Names, ReferredValues, KeptGlobals, nothing_shared, fault_of, or_shared_without, extension, first_kept, kept_by, kept_of, no_names, pattern_dictionary_at, referred_by, symbol_dictionary_at, with_code, with_dictionary, with_number, with_numbers, with_patterns, with_symbols, with_table, globals_at, shared_from}
+use Rattle.jbig2_page.specs.Names.{Names, ReferredValues, first_kept, kept_by, kept_of, no_names, pattern_dictionary_at, referred_by, symbol_dictionary_at, with_code, with_dictionary, with_number, with_numbers, with_patterns, with_symbols, with_table}
 use Rattle.jbig2_page.specs.Page.{Drawing, ReadPage, beginning_of, drawing_of_page, page_from, page_segments, part_of_list, ends_page, immediate, intermediate, strict_fault, with_names, or_left_out, or_passed_over, or_told, blank_page, region_at, regions_height, segment_by, segment_on, segments_drawn, with_cut_off, with_drawn_region, known_height}
 use Rattle.jbig2_page.specs.Regions.{generic_at, halftone_at, with_whole_instances, with_whole_rows, patterns_for, referred_region, refinement_at, text_at}
 use Rattle.jbig2_framing.specs.Segment.{is_partial}
@@ -54,6 +54,9 @@ use Rattle.jbig2_framing.proofs.AgreeingSegments.{file-salvaged, file-same, sequ
 use Rattle.jbig2_page.proofs.AgreeingSymbols.{lenient_symbols, symbol-header-agrees, symbols-decoded-same}
 use Rattle.jbig2_page.proofs.AgreeingTexts.{lenient_text, text-header-agrees, text-same}
 use Rattle.jbig2_page.proofs.SegmentTypes.{of_type}
+use Rattle.jbig2_page.specs.OtherSegments.{extension}
+use Rattle.jbig2_page.specs.PassedOver.{fault_of}
+use Rattle.jbig2_page.specs.Globals.{globals_at, KeptGlobals, nothing_shared, or_shared_without, shared_from}
 
 -- ---- what a segment refers to
 table-same : (code : Option (List Member)) (r : ReferredValues) → Same (with_table true code r) (with_table false code r)

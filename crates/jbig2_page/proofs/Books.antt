@@ -21,9 +21,9 @@ use Rattle.jbig2_framing.specs.declared.page_info.PageInformation.{PageInformati
 use Rattle.jbig2_framing.specs.declared.page_info.InitialPage.{InitialPage}
 use Rattle.jbig2_framing.specs.declared.reading.Reading.{Reading}
 use Rattle.jbig2_page.specs.Files.{PageInFile, ReadFile, of_page, by_pages, ends_of, error_of, before_pages, cut_off_of, page_in_file, pages_in_file, left_out_of, numbers_after, miscounts, association_check, book_at, page_in, segments_at, shared_by, PagesStandAlone}
-use Rattle.jbig2_page.specs.Names.{shared_from, names_of, nothing_shared}
 use Rattle.jbig2_page.specs.Page.{ReadPage, beginning_of, known_height}
 use Rattle.jbig2_page.specs.SharedWork.{shared_count}
+use Rattle.jbig2_page.specs.Globals.{names_of, nothing_shared, shared_from}
 
 from_front : {X Y : Type 0} (f : X → Y) (xs : List X) (i : ℕ) → i < length xs → TakesFirst (λ (y : Y). y) (map f (drop i xs)) (option_map f (slice_get xs i)) (map f (drop (suc i) xs))
 from_front f [] i h = absurd (omega arith)

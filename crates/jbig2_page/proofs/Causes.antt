@@ -23,12 +23,12 @@ use Rattle.jbig2_base.proofs.Causes.{cause-next, cause-refused}
 use Rattle.jbig2_framing.proofs.FileHeaderCauses.{file_header_cause}
 use Rattle.jbig2_framing.proofs.InitialCauses.{initial_page_causes}
 use Rattle.jbig2_region.proofs.ResultCauses.{cause-if, cause-more}
-use Rattle.jbig2_page.specs.ByteCauses.{BreaksSegments}
+use Rattle.jbig2_framing.specs.ByteCauses.{BreaksSegments}
 use Rattle.jbig2_page.specs.Causes.{BreaksBook, BreaksFirstPage, BreaksPages}
 use Rattle.jbig2_page.specs.Files.{PageInFile, ReadFile, association_check, book_at, by_pages, ends_of, before_pages, pages_in_file, page_in_file, lacks_page, miscounts, needs_page, page_in, page_of, segments_at}
 use Rattle.jbig2_page.specs.Page.{ReadPage, beginning_of}
-use Rattle.jbig2_page.proofs.ByteCauses.{in-segments}
-use Rattle.jbig2_page.proofs.ErrorSteps.{Refused, itself, more, refused-by, step, with-memory, without-memory}
+use Rattle.jbig2_framing.proofs.ByteCauses.{in-segments}
+use Rattle.jbig2_base.proofs.ErrorSteps.{Refused, itself, more, refused-by, step, with-memory, without-memory}
 use Rattle.jbig2_page.proofs.FromInput.{from_input-beginning, from_input-book}
 use Rattle.jbig2_page.proofs.Salvaging.{left-out}
 

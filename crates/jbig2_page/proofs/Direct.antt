@@ -27,7 +27,7 @@ use Rattle.jbig2_region.specs.declared.generic_refinement.header.GenericRefineme
 use Rattle.jbig2_region.specs.declared.decoded_region.DecodedRegion.{DecodedRegion}
 use Rattle.jbig2_region.specs.declared.region_info.RegionSegmentInfo.{RegionSegmentInfo}
 use Rattle.jbig2_text.specs.inner.TextViews as texts
-use Rattle.jbig2_page.specs.Names.{Names, nothing_passed}
+use Rattle.jbig2_page.specs.Names.{Names}
 use Rattle.jbig2_page.specs.Page.{Drawing, draws_over, or_passed_over, region_at, with_drawn_region, with_region}
 use Rattle.jbig2_page.specs.declared.drawing.passed_over.PassedOver.{PassedOver}
 use Rattle.jbig2_page.specs.declared.region.parsed_region.ParsedRegion.{ParsedRegion}
@@ -45,6 +45,7 @@ use Rattle.jbig2_base.proofs.Causes.{same-ok}
 use Rattle.jbig2_page.specs.Page.{passing}
 use Rattle.jbig2_page.proofs.PageArea.{area-near}
 use Rattle.jbig2_page.proofs.RegionSizes.{Made, generic-made, halftone-made, refined-made, text-made}
+use Rattle.jbig2_page.specs.PassedOver.{nothing_passed}
 use Rattle.jbig2_region.specs.RefinementHeader.{IsRefinement}
 
 over_pixel : (op : CombinationOperator) (black s : Bool) → draws_over op black ≡ true → combined_pixel op black s ≡ s

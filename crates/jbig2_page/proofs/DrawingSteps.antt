@@ -9,10 +9,11 @@ use Rattle.jbig2_base.specs.declared.error.DecodeError.{DecodeError}
 use Rattle.jbig2_framing.specs.declared.reading.Reading.{Reading}
 use Rattle.jbig2_framing.specs.declared.reading.Reading.TheVariants.{Strict, Lenient, Salvage}
 use Rattle.jbig2_region.specs.RegionInfo.{PlacedRegion}
-use Rattle.jbig2_page.specs.Names.{Names, fault_of, kept_by, with_passed}
+use Rattle.jbig2_page.specs.Names.{Names, kept_by}
 use Rattle.jbig2_page.specs.Page.{Drawing, segments_drawn, ends_page, immediate, intermediate, strict_fault, with_names, or_left_out, or_passed_over, or_told, passing, region_at, segment_by, segment_on, with_drawn_region, with_region}
 use Rattle.jbig2_framing.specs.Segment.{is_partial}
 use Rattle.jbig2_page.proofs.SegmentTypes.{of-segment}
+use Rattle.jbig2_page.specs.PassedOver.{fault_of, with_passed}
 
 -- R holds between what was drawn before a segment and what is drawn after it, whatever the segment is.
 pub record StepsBy (strict : Bool) (R : Drawing → Drawing → Type 0) : Type 0 where

@@ -17,9 +17,10 @@ use Rattle.jbig2_framing.specs.declared.reading.Reading.{Reading}
 use Rattle.jbig2_framing.specs.declared.reading.Reading.TheVariants.{Strict, Lenient}
 use Rattle.jbig2_page.specs.Calls.{Call, Chunk, Line, whole_calls, row_of_grid, calls_of}
 use Rattle.jbig2_page.specs.Files.{page_in_file, book_at, pages_of, segments_at}
-use Rattle.jbig2_page.specs.Image.{first_page, first_size, first_image, image_of}
-use Rattle.jbig2_page.specs.Names.{globals_at}
+use Rattle.jbig2_page.specs.Image.{image_of}
 use Rattle.jbig2_page.specs.Page.{beginning_of, grid_of_page}
+use Rattle.jbig2_page.specs.Globals.{globals_at}
+use Rattle.jbig2_page.specs.FirstPage.{first_image, first_page, first_size}
 
 -- for each page of a file its number, and its calls or its error
 calls_in : Bool → List ℕ → Result (List (ℕ × Result (List Call) DecodeError)) DecodeError

@@ -25,15 +25,18 @@ use Rattle.jbig2_region.proofs.FromInput.{from_input-generic, from_input-generic
 use Rattle.jbig2_symbol.specs.Symbols.{Symbols}
 use Rattle.jbig2_symbol.proofs.FromInput.{from_input-symbol_header, from_input-symbols_decoded}
 use Rattle.jbig2_text.proofs.RegionsFromInput.{from_input-text, from_input-text_header}
-use Rattle.jbig2_page.specs.Names.{Names, ReferredValues, KeptGlobals, extension, fault_of, with_passed, nothing_shared, or_shared_without, kept_by, no_names, pattern_dictionary_at, symbol_dictionary_at, with_code, with_dictionary, with_number, with_numbers, with_patterns, with_symbols, with_table, globals_at, shared_from}
+use Rattle.jbig2_page.specs.Names.{Names, ReferredValues, kept_by, no_names, pattern_dictionary_at, symbol_dictionary_at, with_code, with_dictionary, with_number, with_numbers, with_patterns, with_symbols, with_table}
 use Rattle.jbig2_page.specs.Files.{PageInFile, ReadFile, association_check, book_at, by_pages, before_pages, pages_in_file, page_in_file, miscounts, of_page, shared_by, segments_at}
-use Rattle.jbig2_page.specs.Image.{first_page}
 use Rattle.jbig2_page.specs.Page.{Drawing, ReadPage, beginning_of, page_from, grid_of_page, immediate, intermediate, strict_fault, with_names, or_left_out, or_passed_over, or_told, blank_page, drawing_of_page, region_at, segment_by, segment_on, segments_drawn, with_drawn_region, known_height}
 use Rattle.jbig2_page.specs.Regions.{generic_at, halftone_at, referred_region, refinement_at, text_at}
 use Rattle.jbig2_page.specs.declared.kept.Kept.{Kept}
 use Rattle.jbig2_page.specs.declared.region.RegionKind.{RegionKind}
 use Rattle.jbig2_page.specs.declared.region.RegionKind.TheVariants as kinds
 use Rattle.jbig2_page.proofs.SegmentTypes.{of_type, of-segment}
+use Rattle.jbig2_page.specs.OtherSegments.{extension}
+use Rattle.jbig2_page.specs.PassedOver.{fault_of, with_passed}
+use Rattle.jbig2_page.specs.Globals.{globals_at, KeptGlobals, nothing_shared, or_shared_without, shared_from}
+use Rattle.jbig2_page.specs.FirstPage.{first_page}
 
 -- ---- what a segment refers to
 from_input-with_table : (strict : Bool) (code : Option (List Member)) (r : ReferredValues) → FromInput (with_table strict code r)

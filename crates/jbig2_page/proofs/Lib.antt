@@ -2,12 +2,10 @@ pub mod AgreeingPages
 mod AgreeingRegions
 mod AgreeingSymbols
 mod AgreeingTexts
-pub mod ErrorSteps
 pub mod FromInput
 pub mod DrawingFromInput
 pub mod Books
 pub mod ByPages
-pub mod ByteCauses
 pub mod Causes
 pub mod Chunks
 mod Complete

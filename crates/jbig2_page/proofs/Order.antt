@@ -8,9 +8,10 @@ use Rattle.jbig2_framing.specs.Segment.{SegmentView}
 use Rattle.jbig2_framing.specs.Sequential.{by_number, insert_by, sequential, sorted_segments}
 use Rattle.jbig2_base.specs.declared.error.DecodeError.{DecodeError}
 use Rattle.jbig2_framing.specs.declared.reading.Reading.{Reading}
-use Rattle.jbig2_page.specs.Names.{Names, globals_at, shared_from, nothing_shared}
+use Rattle.jbig2_page.specs.Names.{Names}
 use Rattle.jbig2_page.specs.Order.{EndOfPageEnds, IsReordered, OrderChangesNothing, Unchanged, After, Exchanged, Then}
 use Rattle.jbig2_page.specs.Page.{Drawing, ReadPage, beginning_of, drawing_with, page_from, page_segments, part_of_list, ends_page, blank_page, segment_on, segments_drawn, with_cut_off}
+use Rattle.jbig2_page.specs.Globals.{globals_at, nothing_shared, shared_from}
 
 -- ---- order
 abbrev number : SegmentView → ℕ

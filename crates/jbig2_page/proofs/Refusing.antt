@@ -15,12 +15,13 @@ use Rattle.jbig2_framing.specs.declared.reading.Reading.{Reading}
 use Rattle.jbig2_framing.specs.declared.reading.Reading.TheVariants.{Salvage}
 use Rattle.jbig2_page.specs.Files.{PageInFile, ReadFile, book_at, before_pages, pages_in_file, page_in_file, numbers_after, of_page, page_in, page_of}
 use Rattle.jbig2_page.specs.Lenient.{HasBeginning, SalvageRefusesLittle}
-use Rattle.jbig2_page.specs.Names.{Names, KeptGlobals}
+use Rattle.jbig2_page.specs.Names.{Names}
 use Rattle.jbig2_page.specs.Page.{Drawing, ReadPage, beginning_of, drawing_of_page, page_from, page_segments, blank_page, segments_drawn, with_cut_off}
 use Rattle.jbig2_page.proofs.Books.{file-of_book, filled_from, mapped, number-of_filed}
 use Rattle.jbig2_page.proofs.ByPages.{is_among, no_segments}
 use Rattle.jbig2_page.proofs.Causes.{at-first, at-later}
 use Rattle.jbig2_page.proofs.Salvaging.{IsFine, fine-beginning, fine-book, fine-drawn, fine-file, fine-globals, fine-next, fine-over, fine-segments_at, fine-shared}
+use Rattle.jbig2_page.specs.Globals.{KeptGlobals}
 
 -- ---- pages
 abbrev told : Option CutOff → Drawing → Result Drawing DecodeError

@@ -20,9 +20,11 @@ use Rattle.jbig2_base.proofs.FromInput.{FromInput, IsFromInput}
 use Rattle.jbig2_framing.proofs.FromInput.{from_input-header, from_input-segment, from_input-segment_data}
 use Rattle.jbig2_page.specs.Files.{PageInFile, association_check, book_at, by_pages, before_pages, pages_in_file, page_in_file, segments_at, shared_by}
 use Rattle.jbig2_page.specs.Lenient.{HasBeginning}
-use Rattle.jbig2_page.specs.Names.{Names, KeptGlobals, fault_of, globals_at, kept_by, shared_from, no_names, nothing_shared, or_shared_without, with_passed}
+use Rattle.jbig2_page.specs.Names.{Names, kept_by, no_names}
 use Rattle.jbig2_page.specs.Page.{Drawing, IsSide, beginning_of, ends_page, strict_fault, or_left_out, or_told, segment_by, segment_on, segments_drawn}
 use Rattle.jbig2_page.proofs.FromInput.{from_input-filed, from_input-kept, from_input-segment_by}
+use Rattle.jbig2_page.specs.PassedOver.{fault_of, with_passed}
+use Rattle.jbig2_page.specs.Globals.{globals_at, KeptGlobals, nothing_shared, or_shared_without, shared_from}
 
 -- each error that bytes can bring about is left out
 pub left-out : (e : DecodeError) → IsFromInput e → is_salvaged Salvage e ≡ true

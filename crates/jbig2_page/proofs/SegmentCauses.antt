@@ -26,12 +26,13 @@ use Rattle.jbig2_region.proofs.HeaderCauses.{offset_causes, refinement_header_ca
 use Rattle.jbig2_region.proofs.ResultCauses.{cause-more}
 use Rattle.jbig2_symbol.specs.Symbols.{Symbols}
 use Rattle.jbig2_page.specs.Causes.{BreaksExtension, BreaksPatternReference, BreaksReferred, BreaksRefinement}
-use Rattle.jbig2_page.specs.Names.{Names, ReferredValues, first_kept, kept_of, referred_by, with_dictionary, with_number, with_numbers, with_table, extension}
+use Rattle.jbig2_page.specs.Names.{Names, ReferredValues, first_kept, kept_of, referred_by, with_dictionary, with_number, with_numbers, with_table}
 use Rattle.jbig2_region.specs.WholeRows.{refined_part}
 use Rattle.jbig2_page.specs.Regions.{page_area, patterns_for, referred_region, refinement_at}
 use Rattle.jbig2_framing.specs.Segment.{is_partial}
 use Rattle.jbig2_page.specs.declared.kept.Kept.{Kept}
 use Rattle.jbig2_page.proofs.Causes.{at-first, at-later}
+use Rattle.jbig2_page.specs.OtherSegments.{extension}
 
 -- ---- what a segment refers to
 abbrev NamesNothing : Names → Names → ℕ → Type 0

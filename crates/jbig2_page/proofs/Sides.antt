@@ -20,9 +20,9 @@ use Rattle.jbig2_framing.specs.declared.page_info.PageInformation.{PageInformati
 use Rattle.jbig2_framing.specs.declared.reading.Reading.{Reading}
 use Rattle.jbig2_framing.specs.declared.reading.Reading.TheVariants.{Lenient}
 use Rattle.jbig2_page.specs.Files.{PageInFile, ReadFile, association_check, book_at, by_pages, ends_of, before_pages, pages_in_file, page_in_file, left_out_of, miscounts, of_page, page_in, page_of, shared_by, segments_at}
-use Rattle.jbig2_page.specs.Image.{first_page, first_size}
-use Rattle.jbig2_page.specs.Names.{KeptGlobals}
 use Rattle.jbig2_page.specs.Page.{HasSides, IsSide, ReadPage, beginning_of, known_height}
+use Rattle.jbig2_page.specs.Globals.{KeptGlobals}
+use Rattle.jbig2_page.specs.FirstPage.{first_page, first_size}
 
 -- what holds of the last step's value
 last-has : {A B : Type 0} (P : B → Type 0) (r : Result A DecodeError) (next : A → Result B DecodeError) → ((x : A) → IfOk (next x) P) → IfOk (r >>= next) P

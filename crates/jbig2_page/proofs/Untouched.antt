@@ -18,9 +18,10 @@ use Rattle.jbig2_base.specs.declared.error.DecodeError.{DecodeError}
 use Rattle.jbig2_framing.specs.declared.page_info.InitialPage.{InitialPage}
 use Rattle.jbig2_page.specs.Files.{association_check, book_at, by_pages, miscounts, pages_in_file, part_of_file, segments_at, with_part}
 use Rattle.jbig2_page.specs.Lenient.{StrictPassesNothing}
-use Rattle.jbig2_page.specs.Names.{Names, nothing_passed}
+use Rattle.jbig2_page.specs.Names.{Names}
 use Rattle.jbig2_page.specs.Page.{PagesKeepTheirSize, UntouchedIsBlank, Drawing, ReadPage, drawing_of_page, drawing_with, grid_of_page, beginning_of, blank_page, page_from, page_segments, part_of_list, segments_drawn, with_cut_off}
 use Rattle.jbig2_page.proofs.DrawingSteps.{StepsBy, drawn-keeps}
+use Rattle.jbig2_page.specs.PassedOver.{nothing_passed}
 
 -- ---- untouched
 -- either touched, or with the grid g

@@ -12,7 +12,7 @@ use Rattle.jbig2_base.specs.Search.{least}
 use Rattle.jbig2_mmr.specs.T6Codes.{modes, longer_runs, white_runs, black_runs}
 use Rattle.jbig2_mmr.specs.T6.{read_code, run_from, is_change, is_change_from, b1_of, b2_of, after_pass, after_runs, after_vertical, next_step, row_from, black_at, ends_block, rows_from, rows_of, mmr_rows}
 use Rattle.jbig2_coder.specs.Coder.{byte_at, byte_in, byte_in_if_empty, shift_left, renormd, initial_registers, likely_next, unlikely_next, choice, decision}
-use Rattle.jbig2_coder.specs.Table.{rows, qe_row as state_of}
+use Rattle.jbig2_coder.specs.QeTable.{rows, qe_row as state_of}
 use Rattle.jbig2_region.specs.Generic.{context_at, generic_region, generic_grid}
 use Rattle.jbig2_region.specs.{Templates.{adaptive_pixel_at}, GenericHeader.{rows_at, generic_header_at}}
 use Rattle.jbig2_region.specs.Raster.{so_far, with_next, after_pixel, after_ltp, at_next, first_pixels, decoded_region}

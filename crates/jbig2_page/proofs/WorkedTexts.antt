@@ -31,10 +31,11 @@ use Rattle.jbig2_text.specs.TextRegion.{region_from, text_tables, text_result, t
 use Rattle.jbig2_framing.specs.Reading.{reading_of}
 use Rattle.jbig2_framing.specs.declared.reading.Reading.TheVariants.{Salvage}
 use Rattle.jbig2_page.specs.Calls.{Call, Pixel, Line, singles, whole_calls, row_of_grid, calls_of}
-use Rattle.jbig2_page.specs.Names.{symbol_dictionary_at, with_symbols, globals_at, no_names}
+use Rattle.jbig2_page.specs.Names.{symbol_dictionary_at, with_symbols, no_names}
 use Rattle.jbig2_page.specs.Page.{beginning_of, page_from, grid_of_page, immediate}
 use Rattle.jbig2_page.specs.Regions.{text_at}
 use Rattle.jbig2_page.proofs.WorkedRows.{calls_at, page, one, eight, white}
+use Rattle.jbig2_page.specs.Globals.{globals_at}
 
 -- a dictionary of one symbol, 1 by 1: its segment's first bytes, the flags, and the symbol's row
 abbrev dictionary : ℕ → ℕ → List ℕ

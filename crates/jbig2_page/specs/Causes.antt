@@ -5,7 +5,7 @@ use Rattle.std.specs.Prelude.{Some, option_and_then, unwrap_or, IfErr, IfOk}
 use Rattle.std.specs.List.{flat_map}
 use Rattle.std.specs.Int.{w32}
 use Rattle.std.specs.Option.{option_map_or}
-use Rattle.jbig2_base.specs.Causes.{number_in}
+use Rattle.jbig2_base.specs.Causes.{After, number_in}
 use Rattle.jbig2_framing.specs.Causes.{BreaksFileHeader, BreaksInitialPage}
 use Rattle.jbig2_framing.specs.File.{file_header_at}
 use Rattle.jbig2_base.specs.Grid.{Grid}
@@ -27,13 +27,13 @@ use Rattle.jbig2_framing.specs.declared.reading.Reading.{Reading}
 use Rattle.jbig2_region.specs.Causes.{BreaksOffset, BreaksRefinementHeader}
 use Rattle.jbig2_region.specs.RegionInfo.{PlacedRegion}
 use Rattle.jbig2_region.specs.RefinementHeader.{refinement_header_at}
-use Rattle.jbig2_text.specs.Causes.{After}
 use Rattle.jbig2_symbol.specs.SymbolHeader.{max_new_symbols}
-use Rattle.jbig2_page.specs.ByteCauses.{BreaksSegments}
+use Rattle.jbig2_framing.specs.ByteCauses.{BreaksSegments}
 use Rattle.jbig2_page.specs.Files.{ReadFile, book_at, by_pages, ends_of, needs_page, segments_at}
-use Rattle.jbig2_page.specs.Names.{globals_at, Names, first_kept, kept_of}
+use Rattle.jbig2_page.specs.Names.{Names, first_kept, kept_of}
 use Rattle.jbig2_page.specs.Page.{ReadPage, drawing_of_page, page_from}
 use Rattle.jbig2_page.specs.Regions.{page_area, patterns_for}
+use Rattle.jbig2_page.specs.Globals.{globals_at}
 use Rattle.jbig2_page.specs.declared.kept.Kept.{Kept}
 
 -- ---- files (7.2.6, 7.4.9 and D.4.3)

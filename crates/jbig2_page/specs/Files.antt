@@ -21,8 +21,8 @@ use Rattle.jbig2_framing.specs.declared.cut_off.CutOff.{CutOff}
 use Rattle.jbig2_framing.specs.declared.file_header.FileOrganization.{FileOrganization}
 use Rattle.jbig2_framing.specs.declared.file_header.FileOrganization.TheVariants.{Sequential, RandomAccess}
 use Rattle.jbig2_framing.specs.declared.segment.SegmentType.{SegmentType}
-use Rattle.jbig2_page.specs.Names.{shared_from, names_of, nothing_shared, KeptGlobals}
 use Rattle.jbig2_page.specs.Page.{ReadPage, beginning_of, part_of_list, region_type}
+use Rattle.jbig2_page.specs.Globals.{KeptGlobals, names_of, nothing_shared, shared_from}
 use Rattle.jbig2_framing.specs.declared.segment.SegmentType.TheVariants as types
 
 pub record PageInFile : Type 0 where

@@ -1,17 +1,12 @@
--- A page as bytes (our own rule): the bytes of the grid that it decodes to, or its error. And what a viewer shows of a
--- file: the first page, read leniently.
+-- A page as bytes (our own rule): the bytes of the grid that it decodes to, or its error.
 use Rattle.std.specs.Prelude.{◌≡◌, ◌<◌, ℕ, ◌+◌, ◌-◌, ◌*◌, ◌/◌, ◌%◌, Bool, List, map, slice_index, Result, Ok}
 use Rattle.std.specs.Prelude.{if◌then◌else◌}
 use Rattle.std.specs.List.{range_with_len}
-use Rattle.jbig2_base.specs.Results.{◌>>=◌, some_or}
+use Rattle.jbig2_base.specs.Results.{◌>>=◌}
 use Rattle.jbig2_base.specs.Bits.{bit}
 use Rattle.jbig2_base.specs.Grid.{Grid, pixel_at}
 use Rattle.jbig2_base.specs.declared.error.DecodeError.{DecodeError}
-use Rattle.jbig2_base.specs.declared.error.DecodeError.TheVariants.{Format}
-use Rattle.jbig2_base.specs.declared.error.FormatError.TheVariants.{MissingPageInfo}
-use Rattle.jbig2_framing.specs.declared.reading.Reading.TheVariants.{Lenient}
 use Rattle.jbig2_coder.specs.Integers.{value_of_bits}
-use Rattle.jbig2_page.specs.Files.{book_at, page_of}
 use Rattle.jbig2_page.specs.Page.{ReadPage, grid_of_page}
 
 abbrev pub shade : Bool → ℕ
@@ -50,15 +45,3 @@ abbrev pub PackedBitsAreBytes : Type 0
 PackedBitsAreBytes = (width height : ℕ) (g : Grid) (x y : ℕ) → x < width → y < height
     → slice_index (image_of width height g) (y * width + x)
     ≡ shade (bit (slice_index (packed_of width height g) (y * row_bytes width + x / 8)) (7 - x % 8))
-
-unfoldable pub first_page : List ℕ → Result ReadPage DecodeError  -- a file without pages has no page information
-first_page bytes = book_at Lenient bytes >>= λ book. some_or (Format MissingPageInfo) (page_of book 0)
-
-abbrev pub first_size : List ℕ → Result (ℕ × ℕ) DecodeError
-first_size bytes = first_page bytes >>= λ page. Ok (page.initial_page.width, page.initial_page.height)
-
-abbrev pub first_image : List ℕ → Result (List ℕ) DecodeError
-first_image bytes = first_page bytes >>= λ page. image_of_page page
-
-abbrev pub first_packed : List ℕ → Result (List ℕ) DecodeError
-first_packed bytes = first_page bytes >>= λ page. packed_of_page page

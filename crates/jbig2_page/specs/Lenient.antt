@@ -18,9 +18,11 @@ use Rattle.jbig2_framing.specs.declared.page_info.PageInformation.{PageInformati
 use Rattle.jbig2_framing.specs.declared.reading.Reading.{Reading}
 use Rattle.jbig2_framing.specs.declared.reading.Reading.TheVariants.{Strict, Lenient, Salvage}
 use Rattle.jbig2_page.specs.Files.{ReadFile, book_at, of_page, page_of, segments_at}
-use Rattle.jbig2_page.specs.Names.{Names, globals_at, nothing_passed}
+use Rattle.jbig2_page.specs.Names.{Names}
 use Rattle.jbig2_page.specs.Page.{Drawing, IsSide, ReadPage, blank_page, drawing_of_page, page_from, page_segments, known_height}
 use Rattle.jbig2_page.specs.Page.{segments_drawn}
+use Rattle.jbig2_page.specs.PassedOver.{nothing_passed}
+use Rattle.jbig2_page.specs.Globals.{globals_at}
 use Rattle.jbig2_framing.specs.Segment.{is_partial}
 
 -- Strict reading passes over nothing: its lists of segments never end early, and no segment of them is passed over.

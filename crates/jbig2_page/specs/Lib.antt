@@ -1,13 +1,16 @@
-pub mod ByteCauses
 pub mod Calls
 pub mod Causes
 pub mod Files
+pub mod FirstPage
 pub mod Forms
+pub mod Globals
 pub mod Image
 pub mod Lenient
 pub mod Names
 pub mod Order
+pub mod OtherSegments
 pub mod Page
+pub mod PassedOver
 pub mod Prices
 pub mod Regions
 pub mod Returned

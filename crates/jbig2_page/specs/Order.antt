@@ -5,8 +5,9 @@ use Rattle.jbig2_framing.specs.Segment.{SegmentView}
 use Rattle.jbig2_framing.specs.Sequential.{sequential}
 use Rattle.jbig2_framing.specs.CutOff.{sequence_cut_off, sequence_partial}
 use Rattle.jbig2_framing.specs.declared.reading.Reading.{Reading}
-use Rattle.jbig2_page.specs.Names.{Names, globals_at}
+use Rattle.jbig2_page.specs.Names.{Names}
 use Rattle.jbig2_page.specs.Page.{ReadPage, drawing_of_page, page_from, ends_page}
+use Rattle.jbig2_page.specs.Globals.{globals_at}
 
 -- The second list comes from the first one: neighbours with different numbers change places, any number of times.
 pub data IsReordered : List SegmentView → List SegmentView → Type 0 where

@@ -23,9 +23,9 @@ use Rattle.jbig2_region.specs.GenericHeader.{generic_header_at}
 use Rattle.jbig2_region.specs.Refinement.{is_far}
 use Rattle.jbig2_region.specs.RegionInfo.{PlacedRegion, region_info_at}
 use Rattle.jbig2_region.specs.declared.region_info.RegionSegmentInfo.{RegionSegmentInfo}
-use Rattle.jbig2_page.specs.Names.{Names, fault_of, kept_by, kept_under, no_names}
-use Rattle.jbig2_page.specs.Names.{nothing_passed, with_passed}
+use Rattle.jbig2_page.specs.Names.{Names, kept_by, kept_under, no_names}
 use Rattle.jbig2_page.specs.Regions.{generic_at, halftone_at, refinement_at, text_at}
+use Rattle.jbig2_page.specs.PassedOver.{fault_of, nothing_passed, with_passed}
 use Rattle.jbig2_framing.specs.Segment.{is_partial}
 use Rattle.jbig2_page.specs.declared.kept.Kept.{Kept}
 use Rattle.jbig2_page.specs.declared.drawing.passed_over.PassedOver.{PassedOver}

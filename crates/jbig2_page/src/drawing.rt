@@ -2,7 +2,7 @@
 ghost use Rattle.std.specs.Prelude.{◌≡◌, ◌+◌, ◌*◌, ◌<◌, ◌≤◌, ◌⊎◌, true, false, Err, IfErr, IfOk, OnOk, length};
 ghost use Rattle.jbig2_base.specs.Results.{Gives};
 ghost use Rattle.jbig2_framing.specs.inner.SegmentViews.{segment_view, segment_views};
-ghost use Rattle.jbig2_page.specs.Names.{nothing_passed, with_patterns, with_symbols};
+ghost use Rattle.jbig2_page.specs.Names.{with_patterns, with_symbols};
 ghost use Rattle.jbig2_framing.specs.Reading.{is_strict};
 ghost use Rattle.jbig2_page.specs.Page.{segments_drawn, ends_page, immediate, intermediate, with_names, or_left_out, or_passed_over, region_at, segment_by, segment_on, with_drawn_region};
 ghost use Rattle.jbig2_base.specs.declared.error.DecodeError.TheVariants.{OutOfMemory};
@@ -10,6 +10,7 @@ ghost use Rattle.jbig2_region.specs.inner.RegionViews.{region_view};
 ghost use Rattle.jbig2_page.specs.inner.KeptViews.{kept_values};
 ghost use Rattle.jbig2_page.specs.inner.ParsedRegions.{drawing_of};
 ghost use Rattle.jbig2_page.specs.Prices.{drawn_count};
+ghost use Rattle.jbig2_page.specs.PassedOver.{nothing_passed};
 ghost use Rattle.jbig2_steps.specs.Work.{Paid, budget};
 ghost use Rattle.jbig2_steps.specs.declared.prices.TheConstants as prices;
 
@@ -20,8 +21,9 @@ pub mod passed_over;
 
 use crate::drawing::canvas::Canvas;
 use crate::kept::Kept;
-use crate::kept::dictionaries::{extension, keep_patterns, keep_symbols, keep_table, unlisted};
 use crate::kept::names::{KeptNames, Lookup};
+use crate::kept::segments::{keep_patterns, keep_symbols, keep_table};
+use crate::other_segments::{extension, unlisted};
 use crate::region::references::References;
 use crate::region::{RegionKind, parse_region};
 use crate::segment_price::pay_segment;

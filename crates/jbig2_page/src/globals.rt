@@ -5,15 +5,18 @@ ghost use Rattle.jbig2_base.specs.Results.{Gives};
 ghost use Rattle.jbig2_framing.specs.Reading.{is_strict};
 ghost use Rattle.jbig2_base.specs.declared.error.DecodeError.TheVariants.{OutOfMemory};
 ghost use Rattle.jbig2_framing.specs.inner.SegmentViews.{segment_view, segment_views};
-ghost use Rattle.jbig2_page.specs.Names.{fault_of, globals_at, shared_from, kept_by, no_names, nothing_shared, or_shared_without};
+ghost use Rattle.jbig2_page.specs.Names.{kept_by, no_names};
 ghost use Rattle.jbig2_page.specs.Returned.{IsReturned};
 ghost use Rattle.jbig2_page.specs.inner.KeptViews.{found_value};
+ghost use Rattle.jbig2_page.specs.PassedOver.{fault_of};
+ghost use Rattle.jbig2_page.specs.Globals.{globals_at, nothing_shared, or_shared_without, shared_from};
 ghost use Rattle.jbig2_steps.specs.Work.{IsWithinLimit, Paid, budget};
 ghost use Rattle.jbig2_steps.specs.declared.prices.TheConstants as prices;
 
 use crate::drawing::passed_over::PassedOver;
-use crate::kept::dictionaries::{extension, keep_patterns, keep_symbols, keep_table, unlisted};
 use crate::kept::names::KeptNames;
+use crate::kept::segments::{keep_patterns, keep_symbols, keep_table};
+use crate::other_segments::{extension, unlisted};
 use crate::segment_price::pay_segment;
 use crate::workspace::Workspace;
 use jbig2_base::error::{DecodeError, Result};
@@ -46,7 +49,7 @@ impl<A: Allocator> Drop for GlobalsContent<A> {
 }
 
 impl<A: Allocator> Model for GlobalsContent<A> {
-    ghost use Rattle.jbig2_page.specs.Names.{KeptGlobals};
+    ghost use Rattle.jbig2_page.specs.Globals.{KeptGlobals};
 
     ghost Value = { KeptGlobals };
 
@@ -93,7 +96,7 @@ impl<A: Allocator + Clone> GlobalsContent<A> {
 
     /// The globals in `bytes`: their segments one after the other, without a file header. At most 32 steps are counted
     /// for each unit of work that is left in `work`.
-    #[tactic(auto, unfolding(crate::specs::Names::globals_at))]
+    #[tactic(auto, unfolding(crate::specs::Globals::globals_at))]
     pub fn read<L: Ledger>(
         alloc: A,
         bytes: &[u8],

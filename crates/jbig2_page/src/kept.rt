@@ -3,9 +3,9 @@ ghost use Rattle.std.specs.Prelude.{◌≡◌};
 ghost use Rattle.jbig2_page.specs.Names.{first_kept, kept_of};
 ghost use Rattle.jbig2_page.specs.inner.KeptViews.{found_value};
 
-pub(crate) mod dictionaries;
 pub(crate) mod names;
 pub(crate) mod referred;
+pub(crate) mod segments;
 
 /// What a segment keeps for later ones, under its number.
 #[derive(Drop)]

@@ -9,6 +9,7 @@ pub mod file;
 pub mod globals;
 mod kept;
 pub mod laws;
+mod other_segments;
 pub mod page;
 mod region;
 mod segment_price;

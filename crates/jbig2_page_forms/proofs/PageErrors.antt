@@ -6,6 +6,7 @@ use Rattle.jbig2_base.specs.declared.error.DecodeError.{DecodeError}
 use Rattle.jbig2_base.specs.declared.error.DecodeError.TheVariants.{Format}
 use Rattle.jbig2_base.specs.declared.error.FormatError.TheVariants.{PageCountMismatch}
 use Rattle.jbig2_base.proofs.FromInput.{FromInput}
+use Rattle.jbig2_base.specs.Causes.{After}
 use Rattle.jbig2_framing.specs.Causes.{BreaksInitialPageBy}
 use Rattle.jbig2_framing.specs.CutOff.{sequence_cut_off}
 use Rattle.jbig2_framing.specs.PageInfo.{initial_page_by}
@@ -14,15 +15,16 @@ use Rattle.jbig2_framing.specs.Segment.{SegmentView}
 use Rattle.jbig2_framing.specs.Sequential.{sequential, sorted_segments}
 use Rattle.jbig2_framing.specs.declared.reading.Reading.{Reading}
 use Rattle.jbig2_framing.proofs.InitialCauses.{all-after, initial_page_by_cause}
-use Rattle.jbig2_text.specs.Causes.{After}
-use Rattle.jbig2_page.specs.ByteCauses.{BreaksSequence}
+use Rattle.jbig2_framing.specs.ByteCauses.{BreaksSequence}
 use Rattle.jbig2_page.specs.Files.{PageInFile, ReadFile, association_check, book_at, by_pages, miscounts, of_page, pages_in_file, segments_at, shared_by}
-use Rattle.jbig2_page.specs.Names.{KeptGlobals, Names, fault_of, globals_at, kept_by, no_names, nothing_shared, or_shared_without, shared_from}
+use Rattle.jbig2_page.specs.Names.{Names, kept_by, no_names}
 use Rattle.jbig2_page.specs.Page.{Drawing, ReadPage, beginning_of, blank_page, drawing_with, ends_page, known_height, or_left_out, or_told, page_from, page_segments, passing, segment_by, segment_on, segments_drawn, strict_fault}
-use Rattle.jbig2_page.proofs.ByteCauses.{in-sequence}
+use Rattle.jbig2_framing.proofs.ByteCauses.{in-sequence}
 use Rattle.jbig2_page.proofs.Causes.{file_causes}
-use Rattle.jbig2_page.proofs.ErrorSteps.{Refused, if-refused, itself, more, refused-by, step, without-memory}
+use Rattle.jbig2_base.proofs.ErrorSteps.{Refused, if-refused, itself, more, refused-by, step, without-memory}
 use Rattle.jbig2_page.proofs.FromInput.{from_input-book_globals, from_input-drawing, from_input-embedded, from_input-globals}
+use Rattle.jbig2_page.specs.PassedOver.{fault_of}
+use Rattle.jbig2_page.specs.Globals.{globals_at, KeptGlobals, nothing_shared, or_shared_without, shared_from}
 use Rattle.jbig2_page_forms.specs.PageErrors.{ErrorsHaveCauses, FaultySegment, FaultyShared}
 use Rattle.jbig2_page_forms.specs.SegmentErrors.{BreaksKept, BreaksSegment}
 use Rattle.jbig2_page_forms.proofs.SegmentErrors.{a-kept, a-segment}

@@ -13,8 +13,9 @@ use Rattle.jbig2_framing.specs.Segment.{SegmentView}
 use Rattle.jbig2_framing.specs.declared.cut_off.CutOff.{CutOff}
 use Rattle.jbig2_framing.specs.declared.reading.Reading.{Reading}
 use Rattle.jbig2_region.specs.RegionInfo.{PlacedRegion}
-use Rattle.jbig2_page.specs.Names.{Names, kept_by, with_passed}
+use Rattle.jbig2_page.specs.Names.{Names, kept_by}
 use Rattle.jbig2_page.specs.Page.{Drawing, ReadPage, blank_page, drawing_with, ends_page, grid_of_page, or_left_out, or_told, passing, segment_by, segment_on, segments_drawn, strict_fault, with_cut_off, with_names}
+use Rattle.jbig2_page.specs.PassedOver.{with_passed}
 use Rattle.jbig2_page_forms.specs.PagePixels.{pixel_after, pixel_under, list_of_region, if_immediate, drawn_by, after_ok, regions_of, PixelsAreFolds}
 use Rattle.jbig2_page_forms.proofs.SegmentTypes.{of-segment-type, shown, stored}
 

@@ -9,9 +9,9 @@ use Rattle.jbig2_framing.specs.Sequential.{segments_in}
 use Rattle.jbig2_framing.specs.declared.reading.Reading.TheVariants.{Strict}
 use Rattle.jbig2_framing.specs.declared.segment.SegmentType.TheVariants.{Profiles}
 use Rattle.jbig2_region.specs.RegionInfo.{PlacedRegion}
-use Rattle.jbig2_page.specs.Names.{globals_at}
-use Rattle.jbig2_page.specs.ByteCauses.{BreaksSequence}
+use Rattle.jbig2_framing.specs.ByteCauses.{BreaksSequence}
 use Rattle.jbig2_page_forms.specs.PagePixels.{pixel_under}
+use Rattle.jbig2_page.specs.Globals.{globals_at}
 
 -- ---- pixels
 -- a black pixel at (0, 0), and two of them from column -1 on, which are exchanged with what is below

@@ -44,14 +44,15 @@ use Rattle.jbig2_text.specs.TextRegion.{text_decoded, text_result}
 use Rattle.jbig2_text.proofs.CausesOfHeaders.{text_header_cause}
 use Rattle.jbig2_text.proofs.CausesOfRegions.{text_region_cause}
 use Rattle.jbig2_page.specs.Causes.{BreaksExtension, BreaksPatternReference, BreaksReferred, BreaksRefinement}
-use Rattle.jbig2_page.specs.Names.{Names, table_at, extension, kept_by, pattern_dictionary_at, referred_by, symbol_dictionary_at, with_code, with_patterns, with_symbols}
+use Rattle.jbig2_page.specs.Names.{Names, table_at, kept_by, pattern_dictionary_at, referred_by, symbol_dictionary_at, with_code, with_patterns, with_symbols}
 use Rattle.jbig2_page.specs.Page.{Drawing, immediate, intermediate, segment_by, with_names}
 use Rattle.jbig2_page.specs.Regions.{generic_at, halftone_at, patterns_for, refinement_at, text_at, with_whole_instances, with_whole_rows}
 use Rattle.jbig2_framing.specs.Segment.{is_partial}
 use Rattle.jbig2_page.proofs.SegmentCauses.{extension_cause, patterns_cause, referred_cause, refinement_cause}
+use Rattle.jbig2_page.specs.OtherSegments.{extension}
 use Rattle.jbig2_page_forms.specs.SegmentErrors.{BreaksGeneric, BreaksHalftoneRegion, BreaksKept, BreaksPatternDictionary, BreaksSegment, BreaksSymbolDictionary, BreaksText}
 use Rattle.jbig2_page_forms.specs.SymbolErrors.{BreaksSymbols}
-use Rattle.jbig2_page.proofs.ErrorSteps.{Refused, if-refused, itself, itself_or_memory, more, refusal, refused-by, refused-or, sides, step}
+use Rattle.jbig2_base.proofs.ErrorSteps.{Refused, if-refused, itself, itself_or_memory, more, refusal, refused-by, refused-or, sides, step}
 use Rattle.jbig2_page_forms.proofs.SegmentTypes.{of_type, shown, stored}
 use Rattle.jbig2_page_forms.proofs.SymbolErrors.{dictionary}
 

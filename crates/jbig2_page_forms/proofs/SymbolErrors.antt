@@ -5,12 +5,12 @@ use Rattle.std.proofs.lemmas.Bool.{leb-false}
 use Rattle.jbig2_base.specs.Results.{◌>>=◌}
 use Rattle.jbig2_base.specs.Bits.{Place}
 use Rattle.jbig2_base.specs.Grid.{Grid}
+use Rattle.jbig2_base.specs.Causes.{After}
 use Rattle.jbig2_base.specs.declared.error.DecodeError.{DecodeError}
 use Rattle.jbig2_base.specs.declared.error.DecodeError.TheVariants.{Symbol}
 use Rattle.jbig2_base.specs.declared.error.SymbolError.TheVariants.{UnexpectedOob}
 use Rattle.jbig2_coder.specs.PrefixCode.{Member}
 use Rattle.jbig2_region.proofs.ResultCauses.{IfResult}
-use Rattle.jbig2_text.specs.Causes.{After}
 use Rattle.jbig2_text.specs.TextCoding.{CodedState, in_band}
 use Rattle.jbig2_symbol.specs.Causes.{BreaksContexts, BreaksIdCodes, BreaksTables}
 use Rattle.jbig2_symbol.specs.ClassCauses.{BreaksExports, ClassCauses, ClassesHaveCauses, Where, coded_class_causes, prefixed_class_causes}
@@ -25,7 +25,7 @@ use Rattle.jbig2_symbol.proofs.IdCodes.{id_codes_cause}
 use Rattle.jbig2_symbol.proofs.ReadingCauses.{contexts_cause, exports_cause, result-size, symbol_tables_cause}
 use Rattle.jbig2_second_forms.specs.SymbolClasses.{HeightClass, all_classes, class_after, classes_after, empty_in, height_of_last, symbols_of}
 use Rattle.jbig2_second_forms.proofs.SymbolClasses.{symbols-are}
-use Rattle.jbig2_page.proofs.ErrorSteps.{OrMemory, Refused, if-refused, itself, itself_or_memory, more, refused-by, refused-or, step, with-memory}
+use Rattle.jbig2_base.proofs.ErrorSteps.{OrMemory, Refused, if-refused, itself, itself_or_memory, more, refused-by, refused-or, step, with-memory}
 use Rattle.jbig2_page_forms.specs.SymbolErrors.{BreaksClass, BreaksSymbolData, BreaksSymbols, BreaksSymbolsFrom}
 
 -- what comes after a number whose size is known

@@ -10,14 +10,15 @@ use Rattle.jbig2_framing.specs.Reading.{is_strict}
 use Rattle.jbig2_framing.specs.Segment.{SegmentView}
 use Rattle.jbig2_framing.specs.Sequential.{sorted_segments}
 use Rattle.jbig2_framing.specs.declared.reading.Reading.{Reading}
-use Rattle.jbig2_text.specs.Causes.{After}
-use Rattle.jbig2_page.specs.ByteCauses.{BreaksSequence}
+use Rattle.jbig2_framing.specs.ByteCauses.{BreaksSequence}
 use Rattle.jbig2_page.specs.Causes.{BreaksBook}
 use Rattle.jbig2_page.specs.Files.{book_at, of_page, segments_at}
-use Rattle.jbig2_page.specs.Names.{KeptGlobals, Names, globals_at, no_names, nothing_shared, shared_from}
+use Rattle.jbig2_page.specs.Names.{Names, no_names}
 use Rattle.jbig2_page.specs.Page.{Drawing, ReadPage, blank_page, drawing_of_page, ends_page, known_height, page_from}
 use Rattle.jbig2_page.specs.Page.{page_segments, segments_drawn}
+use Rattle.jbig2_page.specs.Globals.{globals_at, KeptGlobals, nothing_shared, shared_from}
 use Rattle.jbig2_page_forms.specs.SegmentErrors.{BreaksKept, BreaksSegment}
+use Rattle.jbig2_base.specs.Causes.{After}
 
 -- ---- segments as they are drawn or kept
 -- One of a page's segments breaks a rule, where those before it are drawn. None of them, nor this one, ends the page.

@@ -3,7 +3,7 @@
 -- names that were kept before it, by its page and by the globals.
 use Rattle.std.specs.Prelude.{◌≡◌, ◌⊎◌, ℕ, Bool, true, false, not, ◌&&◌, if◌then◌else◌, is_none, IsTrue, List, length}
 use Rattle.jbig2_base.specs.Bits.{start_of}
-use Rattle.jbig2_base.specs.Causes.{BreaksSides}
+use Rattle.jbig2_base.specs.Causes.{After, BreaksSides}
 use Rattle.jbig2_base.specs.Results.{some_or}
 use Rattle.jbig2_base.specs.declared.error.DecodeError.{DecodeError}
 use Rattle.jbig2_base.specs.declared.error.DecodeError.TheVariants.{Segment}
@@ -20,7 +20,7 @@ use Rattle.jbig2_region.specs.Causes.{BreaksGenericHeader}
 use Rattle.jbig2_region.specs.GenericHeader.{generic_header_at}
 use Rattle.jbig2_symbol.specs.Causes.{BreaksSymbolHeader}
 use Rattle.jbig2_symbol.specs.SymbolHeader.{symbol_header_at}
-use Rattle.jbig2_text.specs.Causes.{After, BreaksTextHeader, BreaksTextRegion}
+use Rattle.jbig2_text.specs.Causes.{BreaksTextHeader, BreaksTextRegion}
 use Rattle.jbig2_text.specs.TextHeader.{text_header_at}
 use Rattle.jbig2_page.specs.Causes.{BreaksExtension, BreaksPatternReference, BreaksReferred, BreaksRefinement}
 use Rattle.jbig2_page.specs.Names.{Names, referred_by}

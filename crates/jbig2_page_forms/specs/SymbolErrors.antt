@@ -2,9 +2,9 @@
 -- height classes, one after the other, and in its exports. `k` counts what was read before the fault.
 use Rattle.std.specs.Prelude.{◌⊎◌, ◌<◌, ℕ, List, [], ◌++◌, length, Option}
 use Rattle.jbig2_base.specs.Grid.{Grid}
+use Rattle.jbig2_base.specs.Causes.{After}
 use Rattle.jbig2_base.specs.declared.error.DecodeError.{DecodeError}
 use Rattle.jbig2_coder.specs.PrefixCode.{Member}
-use Rattle.jbig2_text.specs.Causes.{After}
 use Rattle.jbig2_symbol.specs.Causes.{BreaksContexts, BreaksTables}
 use Rattle.jbig2_symbol.specs.ClassCauses.{BreaksExports, BreaksHeightClass, ClassCauses, Where, coded_class_causes}
 use Rattle.jbig2_symbol.specs.ClassCauses.{prefixed_class_causes}

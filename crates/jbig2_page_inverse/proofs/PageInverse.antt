@@ -39,7 +39,7 @@ use Rattle.jbig2_page.proofs.AgreeingPages.{no-part, segment-any}
 use Rattle.jbig2_page.specs.Regions.{generic_at, with_whole_rows}
 use Rattle.jbig2_framing.specs.Segment.{is_partial}
 use Rattle.jbig2_page.specs.Page.{Drawing, IsSide, ReadPage, beginning_of, blank_page, known_height, page_from, part_of_list, grid_of_page, immediate, or_passed_over, segment_by, segment_on, with_cut_off, with_drawn_region, segments_drawn}
-use Rattle.jbig2_inverses.specs.BitmapWriter.{mmr_bytes}
+use Rattle.jbig2_inverses.specs.MmrWriter.{mmr_bytes}
 use Rattle.jbig2_inverses.specs.GenericSegmentWriter.{adaptive_bytes, IsHeader, generic_bytes, info_bytes}
 use Rattle.jbig2_inverses.specs.RegionWriter.{is_typical, generic_entries}
 use Rattle.jbig2_inverses.specs.SegmentWriter.{IsSegment, information_bytes}

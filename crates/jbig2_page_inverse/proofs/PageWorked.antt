@@ -4,8 +4,8 @@ use Rattle.jbig2_base.specs.Search.{least}
 use Rattle.jbig2_mmr.specs.T6Codes.{modes, longer_runs, white_runs, black_runs}
 use Rattle.jbig2_mmr.specs.T6.{is_change, is_change_from, b1_of, b2_of}
 use Rattle.jbig2_region.specs.declared.template.Template.TheVariants.{Template0}
-use Rattle.jbig2_inverses.specs.RowWriter.{word_of, run_bits, code_of, bits_from, row_bits}
-use Rattle.jbig2_inverses.specs.BitmapWriter.{rows_bits, packed, mmr_bits, mmr_bytes}
+use Rattle.jbig2_inverses.specs.MmrRowWriter.{word_of, run_bits, code_of, bits_from, row_bits}
+use Rattle.jbig2_inverses.specs.MmrWriter.{rows_bits, packed, mmr_bits, mmr_bytes}
 use Rattle.jbig2_inverses.specs.FileWriter.{file_header_bytes}
 use Rattle.jbig2_inverses.specs.GenericSegmentWriter.{info_bytes, generic_bytes}
 use Rattle.jbig2_inverses.specs.SegmentWriter.{information_bytes, segment_bytes}

@@ -20,7 +20,7 @@ use Rattle.jbig2_region.specs.declared.template.AdaptiveTemplatePixel.{AdaptiveT
 use Rattle.jbig2_region.specs.declared.template.Template.{Template}
 use Rattle.jbig2_page.specs.Names.{Names}
 use Rattle.jbig2_page.specs.Page.{IsSide, ReadPage, page_from, grid_of_page}
-use Rattle.jbig2_inverses.specs.BitmapWriter.{mmr_bytes}
+use Rattle.jbig2_inverses.specs.MmrWriter.{mmr_bytes}
 use Rattle.jbig2_inverses.specs.GenericSegmentWriter.{AreAdaptive, generic_bytes}
 use Rattle.jbig2_inverses.specs.RegionWriter.{generic_entries}
 use Rattle.jbig2_inverses.specs.SegmentWriter.{IsResolution, information_bytes, segment_bytes}

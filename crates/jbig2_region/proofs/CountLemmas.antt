@@ -10,7 +10,7 @@ use Rattle.jbig2_region.specs.Raster.{Region}
 use Rattle.jbig2_region.specs.inner.Rows.{after_pixels}
 use Rattle.jbig2_region.specs.Steps.{is_run_of, is_run_byte}
 use Rattle.jbig2_region.specs.inner.RowCounts.{run_bytes, CountsRow, CountsRuns}
-use Rattle.jbig2_region.specs.declared.template.neighbours.Adaptives.{Adaptives}
+use Rattle.jbig2_region.specs.declared.template.layouts.Adaptives.{Adaptives}
 use Rattle.jbig2_region.specs.declared.template.neighbours.Neighbours.{Neighbours}
 use Rattle.jbig2_region.specs.declared.template.AdaptiveTemplatePixel.{AdaptiveTemplatePixel}
 use Rattle.jbig2_region.proofs.RasterLemmas.{after_pixels-length, after_pixels-predicted, after_pixels-add}

@@ -4,10 +4,9 @@ use Rattle.jbig2_base.specs.Counts.{Counts}
 use Rattle.jbig2_base.specs.Grid.{Grid}
 use Rattle.jbig2_base.proofs.LaneCounts.{lanes-none}
 use Rattle.jbig2_coder.specs.Coder.{Coder, Context}
-use Rattle.jbig2_region.specs.inner.Stretches.{rest_of}
 use Rattle.jbig2_region.specs.Steps.{CountsDecided}
 use Rattle.jbig2_region.specs.inner.RowCounts.{decided_pixels, decided_rows}
-use Rattle.jbig2_region.specs.inner.DecodedPixels.{DecodesPart, CountsPart}
+use Rattle.jbig2_region.specs.inner.DecodedPixels.{DecodesPart, CountsPart, rest_of}
 use Rattle.jbig2_region.specs.inner.RegionStates.{HasDecoded, BeginsRow, region_state}
 use Rattle.jbig2_region.specs.Raster.{Coding, Region, after_ltp, row_decisions, source}
 use Rattle.jbig2_region.specs.inner.Rows.{after_rows}

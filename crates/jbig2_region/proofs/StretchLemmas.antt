@@ -4,10 +4,9 @@ use Rattle.jbig2_base.specs.Counts.{Counts}
 use Rattle.jbig2_base.specs.Grid.{Grid, blank}
 use Rattle.jbig2_coder.specs.Coder.{Coder, Context}
 use Rattle.jbig2_region.specs.Raster.{Coding, Region, no_pixels, row_decisions}
-use Rattle.jbig2_region.specs.inner.DecodedPixels.{DecodesPart, CountsPart}
+use Rattle.jbig2_region.specs.inner.DecodedPixels.{DecodesPart, CountsPart, rest_of, DecodesPixels}
 use Rattle.jbig2_region.specs.inner.RegionStates.{HasDecoded, BeginsRow, counted_region, region_state}
 use Rattle.jbig2_region.specs.inner.Rows.{after_rows}
-use Rattle.jbig2_region.specs.inner.Stretches.{DecodesPixels, rest_of}
 use Rattle.jbig2_region.proofs.DecodedPixelLemmas.{codes-none, codes-then, counts-none, counts-then}
 use Rattle.jbig2_region.proofs.DecisionLemmas.{Decided, codes-row, decided-none, decided-next}
 use Rattle.jbig2_region.proofs.RasterLemmas.{after_rows-none, region-start}

@@ -12,13 +12,13 @@ use Rattle.jbig2_region.specs.WholeRows.{CountsWholeRows, after_row, whole_rows}
 use Rattle.jbig2_region.specs.inner.RegionStates.{BeginsRow, HasDecoded, counted_region, region_state}
 use Rattle.jbig2_region.specs.inner.RowCounts.{decided_rows}
 use Rattle.jbig2_region.specs.inner.Rows.{after_rows}
-use Rattle.jbig2_region.specs.inner.Stretches.{DecodesPixels, rest_of}
 use Rattle.jbig2_region.proofs.DecisionLemmas.{Decided}
 use Rattle.jbig2_region.proofs.PlaceCounts.{decided-places}
 use Rattle.jbig2_region.proofs.PlaceLemmas.{first-rows}
 use Rattle.jbig2_region.proofs.Prices.{how_many-most, row-decides}
 use Rattle.jbig2_region.proofs.RegionLemmas.{tests-next}
 use Rattle.jbig2_region.proofs.StretchLemmas.{RowsDecoded, rows-next, rows-none}
+use Rattle.jbig2_region.specs.inner.DecodedPixels.{DecodesPixels, rest_of}
 
 -- ---- the definition's rows
 pub whole-none : (coding : Coding) (s : Source) → whole_rows coding s 0 ≡ 0

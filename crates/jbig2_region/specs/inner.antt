@@ -16,4 +16,3 @@ pub mod RegionStates
 pub mod RegionViews
 pub mod RowCounts
 pub mod Rows
-pub mod Stretches

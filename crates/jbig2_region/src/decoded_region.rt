@@ -1,27 +1,12 @@
-//! Regions that are decoded, and the sizes that they can have.
-ghost use Rattle.std.specs.Prelude.{◌≡◌, false};
-ghost use Rattle.jbig2_base.specs.Grid.{blank, blank_or_overflow};
-ghost use Rattle.jbig2_base.specs.Results.{Returns};
+//! Regions that are decoded.
+ghost use Rattle.std.specs.Prelude.{◌≡◌};
 ghost use Rattle.jbig2_region.specs.RegionInfo.{at_location};
 ghost use Rattle.jbig2_region.specs.inner.RegionViews.{region_view};
 
 use crate::region_info::RegionSegmentInfo;
+use jbig2_base::bitmap::Bitmap;
 use jbig2_base::bitmap::operator::CombinationOperator;
-use jbig2_base::bitmap::{Bitmap, MAX_DIMENSION};
-use jbig2_base::error::{OverflowError, Result};
 use std::alloc::Allocator;
-
-/// Refuses a size that a bitmap can't have: a side above 65535 gives
-/// `OverflowError::BitmapDimension`.
-pub fn check_sides(width: u32, height: u32) -> Result<()>
-    ensures { let meant = blank_or_overflow width height false in
-        Returns (λ _. blank width height false) result meant }
-{
-    if width > MAX_DIMENSION || height > MAX_DIMENSION {
-        return Err(OverflowError::BitmapDimension.into());
-    }
-    Ok(())
-}
 
 /// A region that is decoded, its place on the page and how it is combined with the page.
 #[derive(Drop)]

@@ -25,7 +25,7 @@ use crate::generic_kernel::nominal::decode_nominal_row;
 use crate::generic_kernel::pixels::decode_row_by_pixels;
 use crate::generic_kernel::windows::pixels_above;
 use crate::row_decision::begin_row;
-use crate::template::neighbours::Layout;
+use crate::template::layouts::Layout;
 use jbig2_base::bitmap::Bitmap;
 use jbig2_coder::arithmetic_decoder::{ArithmeticDecoder, ArithmeticDecoderContext};
 use jbig2_steps::Steps;

@@ -5,8 +5,8 @@ ghost use Rattle.jbig2_base.specs.Grid.{pixel, bit_number, max_side};
 ghost use Rattle.jbig2_region.specs.Steps.{CountsDecided};
 ghost use Rattle.jbig2_region.specs.Raster.{Coding};
 ghost use Rattle.jbig2_region.specs.inner.RegionStates.{DecodesRegion, IsReady, counted_region, region_state, source_of};
-ghost use Rattle.jbig2_region.specs.inner.Stretches.{DecodesPixels};
 ghost use Rattle.jbig2_region.specs.WholeRows.{CountsWholeRows, whole_rows};
+ghost use Rattle.jbig2_region.specs.inner.DecodedPixels.{DecodesPixels};
 
 use crate::row_decision::begin_row;
 use jbig2_base::bitmap::Bitmap;

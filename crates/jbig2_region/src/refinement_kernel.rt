@@ -5,13 +5,12 @@ ghost use Rattle.jbig2_base.specs.Grid.{pixel_at, max_side};
 ghost use Rattle.jbig2_base.specs.Bits.{bit};
 ghost use Rattle.jbig2_region.specs.Steps.{CountsDecided, window_loads};
 ghost use Rattle.jbig2_region.specs.RefinementTemplates.{refinement_bits};
-ghost use Rattle.jbig2_region.specs.inner.DecodedPixels.{TakesPixel};
+ghost use Rattle.jbig2_region.specs.inner.DecodedPixels.{DecodesPixels, TakesPixel};
 ghost use Rattle.jbig2_region.specs.inner.RegionStates.{DecodesRegion, IsReady, counted_decoder, counted_region, region_state, source_of};
 ghost use Rattle.jbig2_region.specs.inner.Neighbours.{IsLeft};
 ghost use Rattle.jbig2_region.specs.inner.RefinementBlocks.{MovesBlock};
 ghost use Rattle.jbig2_region.specs.inner.RefinementViews.{reference_view};
 ghost use Rattle.jbig2_region.specs.inner.RefinementWindows.{SeesRows, nine_of, three_of, windowed_coding};
-ghost use Rattle.jbig2_region.specs.inner.Stretches.{DecodesPixels};
 
 mod lanes;
 mod windows;

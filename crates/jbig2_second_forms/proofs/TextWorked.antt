@@ -16,7 +16,7 @@ use Rattle.jbig2_text.specs.Refining.{refined_by}
 use Rattle.jbig2_region.specs.Raster.{decoded_region, first_pixels, at_next, after_pixel, with_next, after_ltp, so_far}
 use Rattle.jbig2_region.specs.Refinement.{refined_context}
 use Rattle.jbig2_coder.specs.Coder.{byte_at, byte_in, byte_in_if_empty, shift_left, renormd, initial_registers, likely_next, unlikely_next, choice, decision}
-use Rattle.jbig2_coder.specs.Table.{rows, qe_row}
+use Rattle.jbig2_coder.specs.QeTable.{rows, qe_row}
 use Rattle.jbig2_region.specs.RefinementTemplates.{refinement_pixels_at}
 use Rattle.jbig2_text.specs.TextCoding.{by_prefix_codes}
 use Rattle.jbig2_second_forms.specs.TextInstances.{instance_at, instances_of, strip_from, strips_from}

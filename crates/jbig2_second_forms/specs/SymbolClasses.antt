@@ -10,9 +10,8 @@ use Rattle.jbig2_base.specs.declared.error.DecodeError.{DecodeError}
 use Rattle.jbig2_base.specs.declared.error.DecodeError.TheVariants.{Symbol}
 use Rattle.jbig2_base.specs.declared.error.SymbolError.TheVariants.{UnexpectedOob}
 use Rattle.jbig2_text.specs.TextCoding.{in_band}
-use Rattle.jbig2_symbol.specs.HeightClasses.{new_symbols, size_in_word}
+use Rattle.jbig2_symbol.specs.HeightClasses.{max_empty, new_symbols, size_in_word}
 use Rattle.jbig2_symbol.specs.SymbolCoding.{classes_by_coder, classes_by_prefix_codes}
-use Rattle.jbig2_symbol.specs.SymbolHeader.{max_empty}
 use Rattle.jbig2_symbol.specs.SymbolReading.{ClassReadings, SymbolInput}
 
 pub record HeightClass : Type 0 where  -- its height (HCHEIGHT), and its symbols in order

@@ -7,8 +7,7 @@ use Rattle.jbig2_base.specs.declared.error.DecodeError.TheVariants.{OutOfMemory}
 use Rattle.jbig2_text.specs.Refining.{Refining}
 use Rattle.jbig2_text.specs.Text.{TextParams}
 use Rattle.jbig2_text.specs.TextCoding.{TextTables, by_prefix_codes}
-use Rattle.jbig2_text.specs.TextRegion.{aggregate_tables}
-use Rattle.jbig2_symbol.specs.SymbolBitmaps.{by_instances, id_bits, plain_id, prefixed_at, prefixed_instances}
+use Rattle.jbig2_symbol.specs.SymbolBitmaps.{aggregate_tables, by_instances, id_bits, plain_id, prefixed_at, prefixed_instances}
 use Rattle.jbig2_symbol.specs.Symbols.{exports, symbols_exported}
 use Rattle.jbig2_symbol.specs.HeightClasses.{new_symbols}
 use Rattle.jbig2_symbol.specs.SymbolReading.{ClassReadings, SymbolInput, SymbolState}

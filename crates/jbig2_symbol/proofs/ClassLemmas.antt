@@ -14,8 +14,8 @@ use Rattle.jbig2_base.proofs.Causes.{same-ok}
 use Rattle.jbig2_symbol.specs.HeightClasses.{classes_from, drawn_class, empty_class, height_class, next_width, size_in_word, symbols_from, widths_from}
 use Rattle.jbig2_symbol.specs.SymbolCoding.{collective_class, symbols_by_prefix_codes}
 use Rattle.jbig2_symbol.specs.SymbolReading.{ClassReadings, SymbolInput, SymbolReadings, SymbolState}
-use Rattle.jbig2_symbol.specs.inner.SymbolViews.{concat, class_after, empty_with, symbols_after, room_after}
 use Rattle.jbig2_symbol.proofs.ConcatLemmas.{concat-cons}
+use Rattle.jbig2_symbol.specs.inner.FunctionResults.{class_after, concat, empty_with, room_after, symbols_after}
 
 -- ---- the widths of a class
 pub widths-done : {S : Type 0} (r : SymbolReadings S) (d : SymbolInput) (room width total : ℕ) (before : List ℕ) (s t : S) (next : Option (ℕ × ℕ)) → next ≡ None → next_width r d room width total s ≡ Ok (next, t) → concat before (widths_from r d room width total s) ≡ Ok (before, t)

@@ -16,7 +16,7 @@ use Rattle.jbig2_base.proofs.BitLemmas.{bit-shr}
 use Rattle.jbig2_base.proofs.FillLemmas.{all-filled, filled-store}
 use Rattle.jbig2_base.proofs.GridLemmas.{grid_of-ext}
 use Rattle.jbig2_symbol.specs.SymbolBitmaps.{raw_pixel, raw_rows, raw_stride, symbol_cut, symbols_cut}
-use Rattle.jbig2_symbol.specs.inner.SymbolViews.{bytes_of_rows, symbols_after}
+use Rattle.jbig2_symbol.specs.inner.FunctionResults.{bytes_of_rows, symbols_after}
 
 -- ---- symbols after others
 concat-cons : (before : List Grid) (symbol : Grid) (others : Result (List Grid) DecodeError) → symbols_after before (others >>= λ more. Ok (symbol ∷ more)) ≡ symbols_after (before ++ symbol ∷ []) others

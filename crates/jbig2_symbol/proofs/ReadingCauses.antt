@@ -6,7 +6,7 @@ use Rattle.std.specs.Prelude.{IfErr}
 use Rattle.jbig2_base.specs.Results.{◌>>=◌, refuse_if}
 use Rattle.jbig2_base.specs.Grid.{Grid, bit_number}
 use Rattle.jbig2_base.specs.Bits.{Place, bits_left}
-use Rattle.jbig2_base.specs.Causes.{HasCause, HasCauseOrNoMemory}
+use Rattle.jbig2_base.specs.Causes.{After, HasCause, HasCauseOrNoMemory}
 use Rattle.jbig2_base.proofs.CauseSteps.{call-cause, call-cause-or-memory}
 use Rattle.jbig2_base.specs.declared.error.DecodeError.{DecodeError}
 use Rattle.jbig2_base.specs.declared.error.DecodeError.TheVariants as errors
@@ -15,7 +15,7 @@ use Rattle.jbig2_base.specs.declared.error.OverflowError.TheVariants.{BitmapDime
 use Rattle.jbig2_base.specs.declared.error.SymbolError.TheVariants as symbols
 use Rattle.jbig2_base.proofs.Causes.{cause-next, cause-refused}
 use Rattle.jbig2_coder.specs.PrefixCode.{Member, decoded_value}
-use Rattle.jbig2_text.specs.Causes.{After, BreaksValueAt}
+use Rattle.jbig2_coder.specs.Causes.{BreaksValueAt}
 use Rattle.jbig2_text.proofs.Causes.{no-value}
 use Rattle.jbig2_text.specs.TextCoding.{in_band}
 use Rattle.jbig2_symbol.specs.SymbolBitmaps.{instance_count, some_instances}

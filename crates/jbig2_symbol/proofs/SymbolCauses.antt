@@ -4,7 +4,7 @@ use Rattle.std.proofs.lemmas.Bool.{eqb-false, eqb-true, ltb-true}
 use Rattle.std.specs.Prelude.{IfErr}
 use Rattle.jbig2_base.specs.Results.{◌>>=◌}
 use Rattle.jbig2_base.specs.Bits.{Place, bits_left}
-use Rattle.jbig2_base.specs.Causes.{BreaksSides, HasCauseOrNoMemory}
+use Rattle.jbig2_base.specs.Causes.{After, BreaksSides, HasCauseOrNoMemory}
 use Rattle.jbig2_base.proofs.CauseSteps.{call-cause-or-memory}
 use Rattle.jbig2_base.specs.Fields.{end_of_bytes}
 use Rattle.jbig2_base.specs.Grid.{Grid, blank}
@@ -14,7 +14,7 @@ use Rattle.jbig2_base.specs.declared.error.OverflowError.TheVariants.{BitmapDime
 use Rattle.jbig2_base.specs.declared.error.ParseError.TheVariants.{UnexpectedEof}
 use Rattle.jbig2_base.specs.declared.error.SymbolError.TheVariants.{OutOfRange}
 use Rattle.jbig2_coder.specs.declared.integer_procedures.IntegerProcedure.TheVariants.{Iaai}
-use Rattle.jbig2_text.specs.Causes.{After, BreaksInstances, BreaksValueAt, ReadingsHaveCauses, NamesNone, ReadingCauses, coder_causes, prefix_causes}
+use Rattle.jbig2_text.specs.Causes.{BreaksInstances, ReadingsHaveCauses, NamesNone, ReadingCauses, coder_causes, prefix_causes}
 use Rattle.jbig2_text.specs.Refining.{Refining}
 use Rattle.jbig2_text.specs.Text.{Readings, TextParams, some_symbol, symbol_of, text_region}
 use Rattle.jbig2_text.specs.TextCoding.{CodedState, PrefixedState, by_coder, by_prefix_codes, next_id}
@@ -27,6 +27,7 @@ use Rattle.jbig2_text.proofs.Causes.{cause-bits}
 use Rattle.jbig2_region.proofs.ResultCauses.{cause-if, cause-more, cause-of}
 use Rattle.jbig2_base.proofs.Causes.{cause-next, cause-refused}
 use Rattle.jbig2_symbol.proofs.ReadingCauses.{by-table, instance_count_causes}
+use Rattle.jbig2_coder.specs.Causes.{BreaksValueAt}
 
 -- ---- the sides
 either-of : (x y : Bool) → (x || y) ≡ true → (x ≡ true) ⊎ (y ≡ true)

@@ -17,10 +17,10 @@ use Rattle.jbig2_symbol.specs.HeightClasses.{empty_class, widths_from}
 use Rattle.jbig2_symbol.specs.SymbolBitmaps.{collective_bitmap, mmr_bitmap, rows_of_size, symbol_cut, symbols_cut}
 use Rattle.jbig2_symbol.specs.SymbolCoding.{collective_class, symbols_by_prefix_codes}
 use Rattle.jbig2_symbol.specs.SymbolReading.{SymbolInput, SymbolState}
-use Rattle.jbig2_symbol.specs.inner.SymbolViews.{concat, bytes_of_rows, room_after, tall_class, with_no_value}
 use Rattle.jbig2_symbol.proofs.CutLemmas.{raw-read, raw-unread}
 use Rattle.jbig2_symbol.proofs.MmrRows.{whole-rows}
 use Rattle.jbig2_symbol.proofs.PayingLemmas.{bytes-many}
+use Rattle.jbig2_symbol.specs.inner.FunctionResults.{bytes_of_rows, concat, room_after, tall_class, with_no_value}
 
 -- ---- MMR data
 -- fewer bits than rows

@@ -5,7 +5,7 @@ use Rattle.std.specs.Prelude.{◌≡◌, ◌≢◌, ◌⊎◌, ◌<◌, ◌≤�
 use Rattle.std.specs.Prelude.{IsFalse, if◌then◌else◌, List, length, take, Option, Some, None, Result, Ok, ℤ, pos, negsuc}
 use Rattle.std.specs.Int.{w16, w32}
 use Rattle.jbig2_base.specs.Bits.{Place, byte_boundary, bits_left}
-use Rattle.jbig2_base.specs.Causes.{BreaksSides, number_in}
+use Rattle.jbig2_base.specs.Causes.{After, BreaksSides, number_in}
 use Rattle.jbig2_base.specs.Grid.{Grid, blank, max_side}
 use Rattle.jbig2_base.specs.declared.error.DecodeError.{DecodeError}
 use Rattle.jbig2_base.specs.declared.error.OverflowError.TheVariants.{SymbolCount, BitmapDimension}
@@ -14,20 +14,22 @@ use Rattle.jbig2_base.specs.declared.error.RegionError.TheVariants.{InvalidMmrDa
 use Rattle.jbig2_base.specs.declared.error.SymbolError.TheVariants.{Invalid, OutOfRange, UnexpectedOob}
 use Rattle.jbig2_base.specs.declared.error.TemplateError.TheVariants.{InvalidAtPixel}
 use Rattle.jbig2_coder.specs.PrefixCode.{Member}
+use Rattle.jbig2_coder.specs.Causes.{BreaksValueAt}
 use Rattle.jbig2_coder.specs.declared.integer_procedures.IntegerProcedure.TheVariants.{Iaai}
 use Rattle.jbig2_mmr.specs.Causes.{BreaksMmr}
 use Rattle.jbig2_region.specs.Causes.{BreaksPixels}
 use Rattle.jbig2_region.specs.Templates.{adaptive_pixel_count, template_of}
-use Rattle.jbig2_text.specs.Causes.{After, BreaksInstances, BreaksValueAt, NamesNone, ReadingCauses, coder_causes}
+use Rattle.jbig2_text.specs.Causes.{BreaksInstances, NamesNone, ReadingCauses, coder_causes}
 use Rattle.jbig2_text.specs.Causes.{prefix_causes}
 use Rattle.jbig2_text.specs.Refining.{Refining}
 use Rattle.jbig2_text.specs.Text.{Readings, TextParams}
 use Rattle.jbig2_text.specs.TextCoding.{CodedState, PrefixedState, by_coder, by_prefix_codes, next_id}
 use Rattle.jbig2_symbol.specs.SymbolBitmaps.{aggregate_params, id_bits, instance_count, plain_id, prefixed_at}
 use Rattle.jbig2_symbol.specs.SymbolBitmaps.{raw_stride}
-use Rattle.jbig2_symbol.specs.SymbolHeader.{SymbolHeader, max_empty, max_new_symbols}
+use Rattle.jbig2_symbol.specs.SymbolHeader.{SymbolHeader, max_new_symbols}
 use Rattle.jbig2_symbol.specs.SymbolReading.{BitmapContexts, SymbolInput, SymbolState}
 use Rattle.jbig2_symbol.specs.SymbolReading.{by_procedure, by_table, is_refinement_template, is_template}
+use Rattle.jbig2_symbol.specs.HeightClasses.{max_empty}
 use Rattle.jbig2_symbol.specs.declared.header.HuffmanTableSelection.{HuffmanTableSelection}
 use Rattle.jbig2_symbol.specs.declared.header.HuffmanTableSelection.TheVariants.{UserSupplied}
 use Rattle.jbig2_symbol.specs.declared.header.SymbolDictionaryFlags.{SymbolDictionaryFlags}

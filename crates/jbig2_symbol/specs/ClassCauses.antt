@@ -4,7 +4,7 @@
 use Rattle.std.specs.Prelude.{◌≡◌, ◌≢◌, ◌⊎◌, ◌≤◌, ◌<◌, ℕ, Bool, true, false, zero, suc, ◌+◌, ◌-◌, ◌==◌, List, [], ◌∷◌}
 use Rattle.std.specs.Prelude.{◌++◌, length, sum, Any, Option, Some, None, IfErr, ℤ, pos, negsuc, ◌+ℤ◌}
 use Rattle.jbig2_base.specs.Bits.{Place}
-use Rattle.jbig2_base.specs.Causes.{BreaksSides}
+use Rattle.jbig2_base.specs.Causes.{After, BreaksSides}
 use Rattle.jbig2_base.specs.Grid.{Grid, bit_number}
 use Rattle.jbig2_base.specs.declared.error.DecodeError.{DecodeError}
 use Rattle.jbig2_base.specs.declared.error.DecodeError.TheVariants.{Huffman, Overflow, Symbol}
@@ -13,16 +13,15 @@ use Rattle.jbig2_base.specs.declared.error.HuffmanError.TheVariants as huffman
 use Rattle.jbig2_base.specs.declared.error.OverflowError.TheVariants.{BitmapDimension}
 use Rattle.jbig2_base.specs.declared.error.SymbolError.TheVariants.{Invalid, NoSymbols, OutOfRange, TooManySymbols}
 use Rattle.jbig2_base.specs.declared.error.SymbolError.TheVariants.{UnexpectedOob}
-use Rattle.jbig2_text.specs.Causes.{After, BreaksValueAt}
 use Rattle.jbig2_text.specs.TextCoding.{CodedState}
 use Rattle.jbig2_symbol.specs.Causes.{BreaksCodedAggregate, BreaksCollectiveBitmap, BreaksEmptyClass}
 use Rattle.jbig2_symbol.specs.Causes.{BreaksPrefixedAggregate}
-use Rattle.jbig2_symbol.specs.HeightClasses.{next_width, symbols_from, widths_from}
+use Rattle.jbig2_symbol.specs.HeightClasses.{max_empty, next_width, symbols_from, widths_from}
 use Rattle.jbig2_symbol.specs.SymbolCoding.{classes_by_coder, classes_by_prefix_codes, symbols_by_coder}
 use Rattle.jbig2_symbol.specs.SymbolCoding.{symbols_by_prefix_codes}
-use Rattle.jbig2_symbol.specs.SymbolHeader.{max_empty}
 use Rattle.jbig2_symbol.specs.SymbolReading.{ClassReadings, SymbolInput, SymbolReadings, SymbolState}
 use Rattle.jbig2_symbol.specs.Symbols.{export_runs, exported_grids, next_run}
+use Rattle.jbig2_coder.specs.Causes.{BreaksValueAt}
 
 abbrev pub Where : Bool → Type 0 → Type 0 → Type 0  -- the first of two, where this is so, and else the second
 Where true P Q = P

@@ -8,7 +8,6 @@ use Rattle.jbig2_base.specs.declared.error.DecodeError.{DecodeError}
 use Rattle.jbig2_base.specs.declared.error.OverflowError.TheVariants.{BitmapDimension}
 use Rattle.jbig2_base.specs.declared.error.SymbolError.TheVariants.{Invalid, TooManySymbols, UnexpectedOob}
 use Rattle.jbig2_text.specs.TextCoding.{in_band}
-use Rattle.jbig2_symbol.specs.SymbolHeader.{max_empty}
 use Rattle.jbig2_symbol.specs.SymbolReading.{ClassReadings, SymbolInput, SymbolReadings}
 use Rattle.jbig2_base.specs.declared.error.DecodeError.TheVariants as errors
 
@@ -26,6 +25,9 @@ width_by room width total (Some difference) = do
   next ← size_in_word (pos width +ℤ difference)
   all ← size_in_word (pos total +ℤ pos next)
   Ok (Some (next, all))
+
+abbrev pub max_empty : ℕ  -- how many height classes, or runs of exports, may be empty (our own rule)
+max_empty = 1048576
 
 -- a class without a symbol is refused if 2^20 empty ones came before (our own rule)
 abbrev pub empty_class : ℕ → ℕ → Result (Unit {0}) DecodeError

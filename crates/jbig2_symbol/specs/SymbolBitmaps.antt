@@ -13,8 +13,8 @@ use Rattle.jbig2_base.specs.declared.error.DecodeError.{DecodeError}
 use Rattle.jbig2_base.specs.declared.error.DecodeError.TheVariants.{Symbol, Huffman, Overflow}
 use Rattle.jbig2_base.specs.declared.error.SymbolError.TheVariants.{Invalid, UnexpectedOob}
 use Rattle.jbig2_base.specs.declared.error.OverflowError.TheVariants.{BitmapDimension}
-use Rattle.jbig2_coder.specs.PrefixCode.{Member, table_of}
-use Rattle.jbig2_coder.specs.Tables.{uniform}
+use Rattle.jbig2_coder.specs.PrefixCode.{Member, prefix_code, table_of}
+use Rattle.jbig2_coder.specs.Tables.{lines_a, lines_f, lines_h, lines_k, lines_o, uniform}
 use Rattle.jbig2_coder.specs.declared.integer_procedures.IntegerProcedure.TheVariants.{Iaai}
 use Rattle.jbig2_mmr.specs.T6.{mmr_rows}
 use Rattle.jbig2_region.specs.Generic.{coding_of}
@@ -23,8 +23,7 @@ use Rattle.jbig2_region.specs.Templates.{template_pixels}
 use Rattle.jbig2_text.specs.Refining.{Refining}
 use Rattle.jbig2_text.specs.Text.{Readings, TextParams, some_symbol, symbol_of, text_region}
 use Rattle.jbig2_text.specs.TextCoding.{CodedState, PrefixedState, by_coder, by_prefix_codes}
-use Rattle.jbig2_text.specs.TextCoding.{in_band, next_id, prefixed_bits}
-use Rattle.jbig2_text.specs.TextRegion.{aggregate_tables}
+use Rattle.jbig2_text.specs.TextCoding.{in_band, next_id, prefixed_bits, TextTables}
 use Rattle.jbig2_text.specs.declared.header.ReferenceCorner.TheVariants.{TopLeft}
 use Rattle.jbig2_text.specs.declared.header.TextRegionFlags.{TextRegionFlags}
 use Rattle.jbig2_symbol.specs.SymbolHeader.{SymbolHeader}
@@ -125,6 +124,18 @@ unfoldable pub coded_aggregate : SymbolInput → List Grid → ℕ → ℕ → S
 coded_aggregate d new width height s =
     instance_count (by_procedure Iaai s) >>= λ (count, after_count).
     coded_instances (aggregate_params d new count) width height after_count
+
+abbrev pub aggregate_tables : TextTables  -- the tables of an aggregate symbol's instances (6.5.8.2, Table 17)
+aggregate_tables = record {
+  first_s = prefix_code lines_f;
+  delta_s = prefix_code lines_h;
+  delta_t = prefix_code lines_k;
+  refinement_width = prefix_code lines_o;
+  refinement_height = prefix_code lines_o;
+  refinement_x = prefix_code lines_o;
+  refinement_y = prefix_code lines_o;
+  refinement_size = prefix_code lines_a;
+}
 
 -- by prefix codes: the id of a single instance is plain bits, not a code
 abbrev pub plain_id : ℕ → PrefixedState → Result (ℤ × PrefixedState) DecodeError

@@ -2,7 +2,7 @@
 -- numbers of exported and of new symbols. The bytes give the header, and the coded bytes after it.
 use Rattle.std.specs.Prelude.{ℕ, ◌/◌, ◌%◌, ◌==◌, nat_lt, Bool, false, ◌||◌, List, [], Result, Ok, Err, if◌then◌else◌}
 use Rattle.std.specs.Int.{w16, w32}
-use Rattle.jbig2_base.specs.Results.{refuse_if, ◌>>=◌}
+use Rattle.jbig2_base.specs.Results.{refuse_if}
 use Rattle.jbig2_base.specs.Fields.{number_at}
 use Rattle.jbig2_base.specs.declared.error.DecodeError.{DecodeError}
 use Rattle.jbig2_base.specs.declared.error.DecodeError.TheVariants.{Huffman, Overflow}
@@ -18,9 +18,6 @@ use Rattle.jbig2_symbol.specs.declared.header.SymbolDictionaryFlags.{SymbolDicti
 
 abbrev pub max_new_symbols : ℕ  -- how many symbols a dictionary may add, or export (our own rule)
 max_new_symbols = 1048576
-
-abbrev pub max_empty : ℕ  -- how many height classes, or runs of exports, may be empty (our own rule)
-max_empty = 1048576
 
 pub record SymbolHeader : Type 0 where  -- what is needed to decode a dictionary's coded bytes
   pub flags : SymbolDictionaryFlags

@@ -11,9 +11,9 @@ use Rattle.jbig2_base.specs.declared.error.HuffmanError.TheVariants.{InvalidCode
 use Rattle.jbig2_base.specs.declared.error.SymbolError.TheVariants.{Invalid, NoSymbols, OutOfRange}
 use Rattle.jbig2_coder.specs.PrefixCode.{Member}
 use Rattle.jbig2_symbol.specs.SymbolBitmaps.{id_codes}
-use Rattle.jbig2_symbol.specs.HeightClasses.{new_symbols}
+use Rattle.jbig2_symbol.specs.HeightClasses.{max_empty, new_symbols}
 use Rattle.jbig2_symbol.specs.SymbolCoding.{classes_by_coder, classes_by_prefix_codes, coder_start, prefix_codes_start}
-use Rattle.jbig2_symbol.specs.SymbolHeader.{SymbolHeader, max_empty}
+use Rattle.jbig2_symbol.specs.SymbolHeader.{SymbolHeader}
 use Rattle.jbig2_symbol.specs.SymbolReading.{BitmapContexts, ClassReadings, SymbolContexts, SymbolInput, SymbolState}
 use Rattle.jbig2_symbol.specs.SymbolReading.{first_contexts, bitmap_contexts, symbol_tables, not_negative}
 use Rattle.jbig2_text.specs.TextCoding.{in_band}

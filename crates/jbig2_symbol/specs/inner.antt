@@ -1,4 +1,5 @@
 pub mod ClassWork
+pub mod FunctionResults
 pub mod HeaderViews
 pub mod JoinedRuns
 pub mod SymbolViews

@@ -8,7 +8,8 @@ ghost use Rattle.jbig2_symbol.specs.Causes.{BreaksEmptyClass};
 ghost use Rattle.jbig2_symbol.specs.ClassCauses.{BreaksHeightClass, ClassesHaveCauses};
 ghost use Rattle.jbig2_symbol.specs.HeightClasses.{drawn_class, empty_class, height_class, new_symbols, symbols_from};
 ghost use Rattle.jbig2_symbol.specs.inner.ClassWork.{HasRoomForSymbols, PaidButClass, PaysClass};
-ghost use Rattle.jbig2_symbol.specs.inner.SymbolViews.{concat, class_after, input_view, room_after};
+ghost use Rattle.jbig2_symbol.specs.inner.SymbolViews.{input_view};
+ghost use Rattle.jbig2_symbol.specs.inner.FunctionResults.{class_after, concat, room_after};
 
 use crate::input::SymbolInput;
 use crate::readings::{HeightClass, ReadClasses, ReadSymbols, SymbolSize};

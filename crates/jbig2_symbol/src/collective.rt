@@ -8,7 +8,7 @@ ghost use Rattle.jbig2_base.specs.Grid.{blank, wide_or_overflow};
 ghost use Rattle.jbig2_base.specs.inner.GridsBefore.{grid_before};
 ghost use Rattle.jbig2_steps.specs.Work.{Paid, price_of_bitmap};
 ghost use Rattle.jbig2_symbol.specs.SymbolBitmaps.{symbols_cut, raw_pixel, raw_stride, raw_rows, mmr_bitmap, rows_of_size};
-ghost use Rattle.jbig2_symbol.specs.inner.SymbolViews.{bytes_of_rows, symbols_after, with_no_value};
+ghost use Rattle.jbig2_symbol.specs.inner.FunctionResults.{bytes_of_rows, symbols_after, with_no_value};
 
 use crate::readings::SymbolSize;
 use jbig2_base::bitmap::part::Area;

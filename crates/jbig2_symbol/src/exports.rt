@@ -5,11 +5,12 @@ ghost use Rattle.jbig2_base.specs.Grid.{blank};
 ghost use Rattle.jbig2_base.specs.Causes.{HasCauseOrNoMemory};
 ghost use Rattle.jbig2_steps.specs.Work.{Paid, PaidBut};
 ghost use Rattle.jbig2_text.specs.Paying.{number_steps};
-ghost use Rattle.jbig2_symbol.specs.SymbolHeader.{max_empty, max_new_symbols};
+ghost use Rattle.jbig2_symbol.specs.SymbolHeader.{max_new_symbols};
 ghost use Rattle.jbig2_symbol.specs.ClassCauses.{BreaksExports, ClassesHaveCauses};
 ghost use Rattle.jbig2_symbol.specs.Symbols.{export_runs, exported_grids, exports, next_run};
 ghost use Rattle.jbig2_symbol.specs.inner.JoinedRuns.{joined_runs};
 ghost use Rattle.jbig2_symbol.specs.inner.SymbolViews.{all_symbols, input_view};
+ghost use Rattle.jbig2_symbol.specs.HeightClasses.{max_empty};
 
 use crate::input::SymbolInput;
 use crate::readings::ReadClasses;

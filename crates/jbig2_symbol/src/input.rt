@@ -4,19 +4,10 @@ ghost use Rattle.jbig2_text.specs.SymbolCodes.{max_symbols};
 ghost use Rattle.jbig2_symbol.specs.SymbolHeader.{max_new_symbols};
 
 use crate::header::SymbolDictionaryHeader;
+use crate::tables::SymbolTables;
 use jbig2_base::bitmap::Bitmap;
 use jbig2_coder::huffman_table::{HuffmanTable, StandardHuffmanTables};
 use std::alloc::Allocator;
-
-/// The tables of prefix codes of a dictionary, named for what they read.
-#[derive(Drop)]
-pub struct SymbolTables<'a, A: Allocator> {
-    pub heights: &'a HuffmanTable<A>,
-    pub widths: &'a HuffmanTable<A>,
-    pub sizes: &'a HuffmanTable<A>,
-    pub counts: &'a HuffmanTable<A>,
-    pub runs: &'a HuffmanTable<A>,
-}
 
 /// What is needed to decode a dictionary, besides the state of its reading.
 #[derive(Drop)]

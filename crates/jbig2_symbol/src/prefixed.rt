@@ -13,7 +13,8 @@ ghost use Rattle.jbig2_symbol.specs.SymbolCoding.{collective_class, prefix_codes
 ghost use Rattle.jbig2_symbol.specs.SymbolReading.{SymbolState, by_table};
 ghost use Rattle.jbig2_symbol.specs.inner.ClassWork.{HasRoomForSymbols, PaidButClass, PaysClass};
 ghost use Rattle.jbig2_symbol.specs.inner.HeaderViews.{contexts_view};
-ghost use Rattle.jbig2_symbol.specs.inner.SymbolViews.{concat, input_view, prefixed_view, size_of_rows, tall_class};
+ghost use Rattle.jbig2_symbol.specs.inner.SymbolViews.{input_view, prefixed_view};
+ghost use Rattle.jbig2_symbol.specs.inner.FunctionResults.{concat, size_of_rows, tall_class};
 ghost use Rattle.jbig2_base.specs.Causes.{HasCauseOrNoMemory};
 
 use crate::aggregates::{aggregate_params, id_bits, instance_count, put_together, refine_alone};
@@ -23,6 +24,7 @@ use crate::contexts::WorkingContexts;
 use crate::dictionary::RetainedContexts;
 use crate::input::SymbolInput;
 use crate::readings::{HeightClass, ReadClasses, ReadSymbols, SymbolSize};
+use crate::tables::aggregate_tables;
 use crate::widths::read_widths;
 use jbig2_base::bitmap::{Bitmap, MAX_DIMENSION};
 use jbig2_base::error::{HuffmanError, OverflowError, ParseError, Result};
@@ -30,7 +32,7 @@ use jbig2_base::field::bits_field;
 use jbig2_base::reader::Reader;
 use jbig2_coder::huffman_table::HuffmanTable;
 use jbig2_steps::Work;
-use jbig2_text::{PrefixedReadings, Refining, TextParams, TextRegionHuffmanTables};
+use jbig2_text::{PrefixedReadings, Refining, TextParams};
 use std::alloc::Allocator;
 use std::sync::ledger::Ledger;
 
@@ -105,7 +107,7 @@ impl<'a, A: Allocator + Clone> PrefixedSymbols<'a, A> {
         let bits = id_bits(input.header, input.symbols.len()).max(1) as u8;
         let mut readings = PrefixedReadings {
             reader: self.reader.duplicate(),
-            tables: TextRegionHuffmanTables::of_aggregates(input.standard),
+            tables: aggregate_tables(input.standard),
             ids: input.ids,
         };
         let refining = &mut self.contexts.refining;

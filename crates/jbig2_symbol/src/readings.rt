@@ -6,7 +6,8 @@ ghost use Rattle.jbig2_text.specs.Paying.{number_steps};
 ghost use Rattle.jbig2_symbol.specs.ClassCauses.{ClassCauses, SymbolCauses};
 ghost use Rattle.jbig2_symbol.specs.SymbolReading.{ClassReadings, SymbolReadings};
 ghost use Rattle.jbig2_symbol.specs.inner.ClassWork.{HasRoomForSymbols, PaidButClass, PaysClass};
-ghost use Rattle.jbig2_symbol.specs.inner.SymbolViews.{concat, input_view};
+ghost use Rattle.jbig2_symbol.specs.inner.SymbolViews.{input_view};
+ghost use Rattle.jbig2_symbol.specs.inner.FunctionResults.{concat};
 
 use crate::input::SymbolInput;
 use jbig2_base::bitmap::Bitmap;

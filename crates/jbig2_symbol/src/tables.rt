@@ -1,6 +1,9 @@
-//! The tables of prefix codes of a symbol dictionary (T.88, 7.4.2.1.6).
+//! The tables of prefix codes of a symbol dictionary (T.88, 7.4.2.1.6), and of its aggregate symbols (6.5.8.2).
+ghost use Rattle.std.specs.Prelude.{◌≡◌};
 ghost use Rattle.jbig2_base.specs.Results.{Returns};
 ghost use Rattle.jbig2_coder.specs.inner.TableViews.{customs_view};
+ghost use Rattle.jbig2_text.specs.inner.TextViews as texts;
+ghost use Rattle.jbig2_symbol.specs.SymbolBitmaps.{aggregate_tables};
 ghost use Rattle.jbig2_symbol.specs.SymbolReading.{symbol_tables, table_for};
 ghost use Rattle.jbig2_symbol.specs.inner.SymbolViews.{tables_view};
 ghost use Rattle.jbig2_base.specs.Causes.{HasCause};
@@ -8,11 +11,21 @@ ghost use Rattle.jbig2_symbol.specs.Causes.{BreaksTables};
 ghost use Rattle.jbig2_symbol.specs.declared.header.SymbolDictionaryFlags.{SymbolDictionaryFlags};
 
 use crate::header::{HuffmanTableSelection, SymbolDictionaryFlags};
-use crate::input::SymbolTables;
 use jbig2_base::error::Result;
 use jbig2_coder::huffman_table::{HuffmanTable, StandardHuffmanTables};
 use jbig2_coder::table_selection::next_custom;
+use jbig2_text::TextRegionHuffmanTables;
 use std::alloc::Allocator;
+
+/// The tables of prefix codes of a dictionary, named for what they read.
+#[derive(Drop)]
+pub struct SymbolTables<'a, A: Allocator> {
+    pub heights: &'a HuffmanTable<A>,
+    pub widths: &'a HuffmanTable<A>,
+    pub sizes: &'a HuffmanTable<A>,
+    pub counts: &'a HuffmanTable<A>,
+    pub runs: &'a HuffmanTable<A>,
+}
 
 /// The table that a selection names, and the custom tables still left.
 #[tactic(auto, unfolding(crate::specs::SymbolReading::table_for))]
@@ -58,4 +71,22 @@ pub fn symbol_tables<'a, A: Allocator>(
         counts,
         runs: standard.table_a(),
     })
+}
+
+/// The tables of an aggregate symbol's instances (T.88, Table 17).
+pub fn aggregate_tables<'a, A: Allocator>(
+    standard: &'a StandardHuffmanTables<A>,
+) -> TextRegionHuffmanTables<'a, A>
+    ensures { texts.tables_view result ≡ aggregate_tables }
+{
+    TextRegionHuffmanTables {
+        first_s: standard.table_f(),
+        delta_s: standard.table_h(),
+        delta_t: standard.table_k(),
+        refinement_width: standard.table_o(),
+        refinement_height: standard.table_o(),
+        refinement_x: standard.table_o(),
+        refinement_y: standard.table_o(),
+        refinement_size: standard.table_a(),
+    }
 }

@@ -6,7 +6,8 @@ ghost use Rattle.jbig2_steps.specs.Work.{PaidBut};
 ghost use Rattle.jbig2_text.specs.Paying.{number_steps};
 ghost use Rattle.jbig2_symbol.specs.ClassCauses.{BreaksNextWidth, SymbolsHaveCauses};
 ghost use Rattle.jbig2_symbol.specs.HeightClasses.{next_width, size_in_word, width_by, widths_from};
-ghost use Rattle.jbig2_symbol.specs.inner.SymbolViews.{IsNextWidth, input_view, with_total};
+ghost use Rattle.jbig2_symbol.specs.inner.SymbolViews.{input_view};
+ghost use Rattle.jbig2_symbol.specs.inner.FunctionResults.{IsNextWidth, with_total};
 
 use crate::input::SymbolInput;
 use crate::readings::ReadSymbols;

@@ -9,6 +9,7 @@ use jbig2_coder::huffman_table::{HuffmanTable, StandardHuffmanTables};
 use jbig2_permit::Permit;
 use jbig2_region::template::{RefinementTemplate, Template};
 use jbig2_steps::{Steps, Work};
+use jbig2_symbol::tables::aggregate_tables;
 use jbig2_symbol::{HuffmanTableSelection, RetainedContexts, SymbolDictionary, decode, parse};
 use std::alloc::Global;
 use std::marker::Brand;
@@ -194,6 +195,31 @@ fn contexts_that_are_kept(rt: HostRuntime) {
         go_on = contexts_go_on::<Brand>(rt.alloc(), Blank::new(7));
     }
     assert!(rt; go_on == Ok(true));
+}
+
+/// Whether numbers are those of the tables of aggregate symbols (T.88, Table 17): B.8, B.11 and B.1.
+fn numbers_hold(alloc: Global) -> Result<bool> {
+    let standard = StandardHuffmanTables::new(alloc)?;
+    let tables = aggregate_tables(&standard);
+    let numbers = [
+        tables
+            .delta_s
+            .decode_no_oob(&mut Reader::new(&[0xFE, 0x80]))?,
+        tables.delta_t.decode_no_oob(&mut Reader::new(&[0]))?,
+        tables
+            .refinement_size
+            .decode_no_oob(&mut Reader::new(&[0b00101000]))?,
+    ];
+    Ok(numbers == [-3, 1, 5])
+}
+
+#[test]
+fn numbers_of_aggregates(rt: HostRuntime) {
+    let mut hold = numbers_hold(rt.alloc());
+    if hold == Err(DecodeError::OutOfMemory) {
+        hold = numbers_hold(rt.alloc());
+    }
+    assert!(rt; hold == Ok(true));
 }
 
 #[test]

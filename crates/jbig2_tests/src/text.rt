@@ -12,11 +12,8 @@ use jbig2_coder::integer_procedures::IntegerProcedure;
 use jbig2_permit::Permit;
 use jbig2_region::template::{AdaptiveTemplatePixel, RefinementTemplate};
 use jbig2_steps::Work;
-use jbig2_text::code_field::value_field;
 use jbig2_text::header::ReferenceCorner;
-use jbig2_text::{
-    CodedReadings, Refining, TextRegionHuffmanTables, decode, parse, pixels_of_template,
-};
+use jbig2_text::{CodedReadings, Refining, decode, parse, pixels_of_template};
 use std::alloc::Global;
 use std::marker::Brand;
 use std::sync::ledger::{Blank, Ledger};
@@ -139,22 +136,10 @@ fn coded_numbers<L: Ledger>(alloc: Global, blank: Blank) -> Result<[i64; 3]>
     Ok([i64::from(first), i64::from(second), id])
 }
 
-/// Numbers with the tables of aggregate symbols (T.88, Table 17): B.8, B.11 and B.1.
-fn numbers_by_tables(alloc: Global) -> Result<[i32; 3]> {
-    let standard = StandardHuffmanTables::new(alloc)?;
-    let tables = TextRegionHuffmanTables::of_aggregates(&standard);
-    Ok([
-        value_field(tables.delta_s, &mut Reader::new(&[0xFE, 0x80]))?,
-        value_field(tables.delta_t, &mut Reader::new(&[0]))?,
-        value_field(tables.refinement_size, &mut Reader::new(&[0b00101000]))?,
-    ])
-}
-
-/// Whether all numbers are those of Annexes A and B.
+/// Whether the numbers are those of Annex A.
 fn numbers_hold(alloc: Global) -> Result<bool> {
     let by_coder = coded_numbers::<Brand>(alloc, Blank::new(7))?;
-    let by_tables = numbers_by_tables(alloc)?;
-    Ok(by_coder == [1, -2, 3] && by_tables == [-3, 1, 5])
+    Ok(by_coder == [1, -2, 3])
 }
 
 #[test]

@@ -10,14 +10,14 @@ use Rattle.jbig2_base.specs.declared.error.DecodeError.{DecodeError}
 use Rattle.jbig2_base.specs.declared.error.DecodeError.TheVariants.{Huffman, OutOfMemory}
 use Rattle.jbig2_base.specs.declared.error.HuffmanError.TheVariants.{UnexpectedOob}
 use Rattle.jbig2_base.proofs.Causes.{cause-next}
-use Rattle.jbig2_coder.specs.Causes.{AreCrowded, BreaksCode, BreaksRange}
-use Rattle.jbig2_coder.specs.PrefixCode.{CodeReading, Member, decoded_value, no_oob, read_code, table_of, value_by}
+use Rattle.jbig2_coder.specs.Causes.{AreCrowded, BreaksCode, BreaksNumberAt, BreaksRange, BreaksValueAt}
+use Rattle.jbig2_coder.specs.PrefixCode.{CodeReading, Member, decoded_value, no_oob, read_code, table_of, value_by, value_at}
 use Rattle.jbig2_coder.specs.declared.huffman_table.line.TableLine.{TableLine}
 use Rattle.jbig2_coder.proofs.Causes.{code_cause, number_cause, range_cause, table-cause}
-use Rattle.jbig2_text.specs.Causes.{After, BreaksNumberAt, BreaksRun, BreaksSymbolCodes, BreaksValueAt}
-use Rattle.jbig2_text.specs.SymbolCodes.{invalid_code, lines_from, next_runcode, with_last_repeated, run_at, runcodes_at, runs_at, short_lengths, symbol_codes_at, symbol_codes_from, symbol_lengths_at, value_at}
+use Rattle.jbig2_text.specs.Causes.{BreaksRun, BreaksSymbolCodes}
+use Rattle.jbig2_text.specs.SymbolCodes.{invalid_code, lines_from, next_runcode, with_last_repeated, run_at, runcodes_at, runs_at, short_lengths, symbol_codes_at, symbol_codes_from, symbol_lengths_at}
 use Rattle.jbig2_region.proofs.ResultCauses.{cause-if, cause-last, cause-more, result-of, result-next, result-refused}
-use Rattle.jbig2_base.specs.Causes.{HasCause, HasCauseOrNoMemory}
+use Rattle.jbig2_base.specs.Causes.{After, HasCause, HasCauseOrNoMemory}
 use Rattle.jbig2_base.proofs.CauseSteps.{call-cause-or-memory}
 
 -- ---- bits and codes

@@ -11,13 +11,14 @@ use Rattle.jbig2_base.specs.declared.error.DecodeError.TheVariants.{Huffman, Out
 use Rattle.jbig2_base.specs.declared.error.HuffmanError.TheVariants.{InvalidSelection, MissingTables}
 use Rattle.jbig2_base.specs.declared.error.SymbolError.TheVariants.{TooManyInstances, UnexpectedOob}
 use Rattle.jbig2_base.proofs.Causes.{cause-bytes, cause-next, cause-refused}
-use Rattle.jbig2_coder.specs.PrefixCode.{Member}
+use Rattle.jbig2_coder.specs.PrefixCode.{Member, value_at}
 use Rattle.jbig2_coder.specs.Tables.{next_custom}
+use Rattle.jbig2_coder.specs.Causes.{BreaksNumberAt}
 use Rattle.jbig2_coder.specs.declared.integer_procedures.IntegerProcedure.{IntegerProcedure}
 use Rattle.jbig2_coder.specs.declared.integer_procedures.IntegerProcedure.TheVariants.{Iari}
 use Rattle.jbig2_region.specs.Refinement.{Reference}
-use Rattle.jbig2_text.specs.SymbolCodes.{invalid_code, value_at}
-use Rattle.jbig2_text.specs.Causes.{After, BreaksNumberAt, BreaksInstance, BreaksInstances, BreaksStrip, ReadingsHaveCauses, ReadingCauses, BreaksRegionBy, BreaksTextRegion, BreaksTextTables, HasNoMeaning, IsOutOfBand, LacksBytes, coder_causes, customs_if, prefix_causes}
+use Rattle.jbig2_text.specs.SymbolCodes.{invalid_code}
+use Rattle.jbig2_text.specs.Causes.{BreaksInstance, BreaksInstances, BreaksStrip, ReadingsHaveCauses, ReadingCauses, BreaksRegionBy, BreaksTextRegion, BreaksTextTables, HasNoMeaning, IsOutOfBand, LacksBytes, coder_causes, customs_if, prefix_causes}
 use Rattle.jbig2_text.specs.Refining.{Refining}
 use Rattle.jbig2_text.specs.Text.{TextState, Readings, TextParams, after_instances, coordinate, next_cursor, strip_start, strip_delta, text_region, with_instance}
 use Rattle.jbig2_text.specs.declared.cursor.Cursor.{Cursor}
@@ -29,7 +30,7 @@ use Rattle.jbig2_text.proofs.Causes.{cause-bits, cause-value, no-value}
 use Rattle.jbig2_text.proofs.CausesOfInstances.{instance_causes}
 use Rattle.jbig2_text.proofs.CausesOfText.{BreaksMove, cause-delta, cause-move, cause-strip, result-word}
 use Rattle.jbig2_region.proofs.ResultCauses.{IfResult, cause-if, cause-last, cause-more, result-if}
-use Rattle.jbig2_base.specs.Causes.{HasCause, HasCauseOrNoMemory}
+use Rattle.jbig2_base.specs.Causes.{After, HasCause, HasCauseOrNoMemory}
 use Rattle.jbig2_base.proofs.CauseSteps.{call-cause, call-cause-or-memory}
 use Rattle.jbig2_text.specs.declared.header.TextRegionHuffmanFlags.{TextRegionHuffmanFlags}
 

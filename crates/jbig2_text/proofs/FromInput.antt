@@ -3,9 +3,10 @@ use Rattle.std.proofs.Common.{ℕ, zero, suc, Bool, true, false, List, Option, S
 use Rattle.jbig2_base.specs.Grid.{Grid}
 use Rattle.jbig2_base.specs.declared.error.DecodeError.{DecodeError}
 use Rattle.jbig2_base.proofs.FromInput.{FromInput, IsFromInput, from_input-if, from_input-next, from_input-refusal}
+use Rattle.jbig2_base.specs.Results.{word_or}
 use Rattle.jbig2_region.specs.Refinement.{Reference}
 use Rattle.jbig2_text.specs.Refining.{Refining}
-use Rattle.{jbig2_text.specs.Text.{TextState, Readings, TextParams, after_instances, next_cursor, edge, instance_symbol, with_ids, plain_symbol, refined_outline, refined_symbol, refinement_deltas, side_of, some_symbol, strip_start, strip_delta, symbol_placed, t_in_strip, text_region, with_instance, with_symbol}, jbig2_base.specs.Fields.{word_or}}
+use Rattle.jbig2_text.specs.Text.{TextState, Readings, TextParams, after_instances, next_cursor, edge, instance_symbol, with_ids, plain_symbol, refined_outline, refined_symbol, refinement_deltas, side_of, some_symbol, strip_start, strip_delta, symbol_placed, t_in_strip, text_region, with_instance, with_symbol}
 use Rattle.jbig2_text.specs.inner.FunctionResults.{s_before, s_after}
 use Rattle.jbig2_text.specs.declared.cursor.Cursor.{Cursor}
 use Rattle.jbig2_text.specs.declared.refined.RefinementDeltas.{RefinementDeltas}

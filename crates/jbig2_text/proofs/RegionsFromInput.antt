@@ -4,12 +4,11 @@ use Rattle.jbig2_base.specs.Bits.{Place}
 use Rattle.jbig2_base.specs.Grid.{Grid}
 use Rattle.jbig2_base.specs.declared.error.DecodeError.{DecodeError}
 use Rattle.jbig2_base.proofs.FromInput.{FromInput, IsFromInput, from_input-bits, from_input-bytes, from_input-if, from_input-next, from_input-number, from_input-operator, from_input-refusal, from_input-some}
-use Rattle.jbig2_coder.specs.PrefixCode.{Member}
+use Rattle.jbig2_coder.specs.PrefixCode.{Member, value_at}
 use Rattle.jbig2_coder.specs.declared.integer_procedures.IntegerProcedure.{IntegerProcedure}
 use Rattle.jbig2_coder.proofs.FromInput.{from_input-decoded, from_input-next_custom, from_input-no_oob, from_input-table_of}
 use Rattle.jbig2_region.proofs.FromInput.{from_input-region_info, from_input-refinement_pixels}
 use Rattle.jbig2_region.specs.Refinement.{Reference}
-use Rattle.jbig2_text.specs.SymbolCodes.{value_at}
 use Rattle.jbig2_text.specs.Refining.{Refining}
 use Rattle.jbig2_text.specs.SymbolCodes.{next_runcode, with_last_repeated, run_at, runcodes_at, runs_at, short_lengths, symbol_codes_from, symbol_lengths_at}
 use Rattle.jbig2_text.specs.Text.{Readings}

@@ -10,7 +10,7 @@ use Rattle.jbig2_base.specs.declared.error.DecodeError.TheVariants.{Parse, Symbo
 use Rattle.jbig2_base.specs.declared.error.ParseError.TheVariants.{UnexpectedEof}
 use Rattle.jbig2_base.specs.declared.error.SymbolError.TheVariants.{TooManyInstances}
 use Rattle.jbig2_coder.specs.Coder.{byte_at, byte_in, byte_in_if_empty, shift_left, renormd, initial_registers, likely_next, unlikely_next, choice, decision}
-use Rattle.jbig2_coder.specs.Table.{rows, qe_row}
+use Rattle.jbig2_coder.specs.QeTable.{rows, qe_row}
 use Rattle.jbig2_base.specs.Search.{least}
 use Rattle.jbig2_coder.specs.PrefixCode.{prefix_code, is_crowded, weight, shorter, read_code, decoded_value}
 use Rattle.jbig2_coder.specs.Tables.{lines_a, lines_n, lines_f, lines_h, lines_k}

@@ -2,11 +2,11 @@
 -- whatever the coding, in its tables, and in its coded numbers. `Breaks..` takes what is read and an error, and the
 -- function that refuses cites it. An error at an instance comes after the instances before it are read.
 use Rattle.std.specs.Prelude.{◌≡◌, ◌<◌, ◌⊎◌, ℕ, ◌+◌, ◌/◌, ◌%◌, ◌==◌, Bool, ◌&&◌, if◌then◌else◌, List, [], length, drop}
-use Rattle.std.specs.Prelude.{Result, Ok, Err, IfErr, ℤ, pos, negsuc, ◌≤◌, ◌-◌, ◌*◌, ◌^◌, true, false, ◌+ℤ◌, ◌-ℤ◌, ◌*ℤ◌}
+use Rattle.std.specs.Prelude.{Ok, IfErr, ℤ, pos, negsuc, ◌≤◌, ◌-◌, ◌*◌, ◌^◌, true, false, ◌+ℤ◌, ◌-ℤ◌, ◌*ℤ◌}
 use Rattle.std.specs.Prelude.{Option, Some, None, ◌≢◌, nat_lt}
 use Rattle.std.specs.Int.{w8, w16, int_shr}
 use Rattle.jbig2_base.specs.Bits.{Place, bits_left, start_of, byte_boundary}
-use Rattle.jbig2_base.specs.Causes.{number_in}
+use Rattle.jbig2_base.specs.Causes.{After, number_in}
 use Rattle.jbig2_base.specs.declared.error.DecodeError.{DecodeError}
 use Rattle.jbig2_base.specs.declared.error.DecodeError.TheVariants.{Huffman, Parse, Region, Unsupported, Overflow}
 use Rattle.jbig2_base.specs.declared.error.DecodeError.TheVariants.{Symbol}
@@ -18,12 +18,12 @@ use Rattle.jbig2_base.specs.declared.error.OverflowError.TheVariants.{ReferenceO
 use Rattle.jbig2_base.specs.declared.error.SymbolError.TheVariants.{InvalidStripDelta, OutOfRange, TooManyInstances}
 use Rattle.jbig2_base.specs.declared.error.SymbolError.TheVariants.{UnexpectedOob}
 use Rattle.jbig2_base.specs.Grid.{Grid, max_side}
-use Rattle.jbig2_coder.specs.Causes.{AreCrowded, BreaksNumber, BreaksValue, LeavesWord}
-use Rattle.jbig2_coder.specs.PrefixCode.{Member}
+use Rattle.jbig2_coder.specs.Causes.{AreCrowded, BreaksNumberAt, BreaksValueAt, LeavesWord}
+use Rattle.jbig2_coder.specs.PrefixCode.{Member, value_at}
 use Rattle.jbig2_coder.specs.declared.integer_procedures.IntegerProcedure.{IntegerProcedure}
 use Rattle.jbig2_coder.specs.declared.integer_procedures.IntegerProcedure.TheVariants.{Iadt, Iafs, Iait, Iardh, Iardw}
 use Rattle.jbig2_coder.specs.declared.integer_procedures.IntegerProcedure.TheVariants.{Iardx, Iardy, Iari}
-use Rattle.jbig2_text.specs.SymbolCodes.{lines_from, runcodes_at, runs_at, short_lengths, value_at}
+use Rattle.jbig2_text.specs.SymbolCodes.{lines_from, runcodes_at, runs_at, short_lengths}
 use Rattle.jbig2_text.specs.TextHeader.{ArithmeticCoding, HuffmanCoding, NumberCoding, TextHeader}
 use Rattle.jbig2_text.specs.Refining.{Refining}
 use Rattle.jbig2_text.specs.Text.{TextState, Readings, TextParams, after_instances, instance_symbol, is_bottom}
@@ -35,18 +35,6 @@ use Rattle.jbig2_text.specs.declared.header.TextRegionHuffmanFlags.{TextRegionHu
 use Rattle.jbig2_text.specs.TextCoding.{CodedState, PrefixedState, by_coder, by_prefix_codes, next_integer}
 use Rattle.jbig2_text.specs.TextRegion.{blank_region, coder_of, prefix_codes_of, refining_of, text_params}
 use Rattle.jbig2_region.specs.Refinement.{Reference}
-
--- the call succeeded, and this holds for its value
-abbrev pub After : {A : Type 0} → Result A DecodeError → (A → Type 0) → Type 0
-After {A} r P = (x : A) × (r ≡ Ok x) × P x
-
--- No value can be read there by this table (B.4), not even out of band: no code begins the bits, or bits are missing, or
--- the value doesn't fit.
-abbrev pub BreaksValueAt : List Member → Place → DecodeError → Type 0
-BreaksValueAt table p e = BreaksValue table (bits_left p) e
-
-abbrev pub BreaksNumberAt : List Member → Place → DecodeError → Type 0  -- the same where no value may be out of band
-BreaksNumberAt table p e = BreaksNumber table (bits_left p) e
 
 -- ---- the codes of the ids (7.4.3.1.7)
 -- A runcode whose bits are missing: two after 32, three after 33, seven after 34. Or 32, which has no length to repeat.

@@ -3,12 +3,12 @@
 use Rattle.std.specs.Prelude.{ℕ, zero, suc, ◌+◌, ◌-◌, nat_lt, ◌==◌, List, [], ◌∷◌, ◌++◌, length, replicate, slice_get}
 use Rattle.std.specs.Prelude.{Result, Ok, Err, ℤ, pos, negsuc, if◌then◌else◌}
 use Rattle.jbig2_base.specs.Results.{◌>>=◌, refuse_if, some_or}
-use Rattle.jbig2_base.specs.Bits.{Place, byte_boundary, bits_left, bits_on, start_of}
+use Rattle.jbig2_base.specs.Bits.{Place, byte_boundary, start_of}
 use Rattle.jbig2_base.specs.Fields.{bits_at}
 use Rattle.jbig2_base.specs.declared.error.DecodeError.{DecodeError}
 use Rattle.jbig2_base.specs.declared.error.DecodeError.TheVariants.{Huffman}
 use Rattle.jbig2_base.specs.declared.error.HuffmanError.TheVariants.{InvalidCode}
-use Rattle.jbig2_coder.specs.PrefixCode.{Member, decoded_value, no_oob, table_of}
+use Rattle.jbig2_coder.specs.PrefixCode.{Member, table_of, value_at}
 use Rattle.jbig2_coder.specs.Tables.{line}
 use Rattle.jbig2_coder.specs.declared.huffman_table.line.TableLine.{TableLine}
 
@@ -17,12 +17,6 @@ max_symbols = 2097152
 
 abbrev pub invalid_code : DecodeError
 invalid_code = Huffman InvalidCode
-
--- a number with a prefix code of this table (B.4), and the place after it; out of band is refused
-abbrev pub value_at : List Member → Place → Result (ℤ × Place) DecodeError
-value_at table p =
-    let read = decoded_value table (bits_left p) in
-    no_oob read.result >>= λ n. Ok (n, bits_on read.taken p)
 
 abbrev pub lines_from : ℕ → List ℕ → List TableLine  -- the numbers from n on, with codes of these lengths
 lines_from n [] = []

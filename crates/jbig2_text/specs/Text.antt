@@ -5,7 +5,7 @@ use Rattle.std.specs.Prelude.{ℤ, pos, negsuc, ◌+ℤ◌, ◌-ℤ◌, ◌*ℤ�
 use Rattle.std.specs.Prelude.{Result, Ok, Err}
 use Rattle.std.specs.Int.{int_shr}
 use Rattle.std.specs.Option.{is_some}
-use Rattle.jbig2_base.specs.Results.{◌>>=◌, refuse_if, some_or}
+use Rattle.jbig2_base.specs.Results.{◌>>=◌, refuse_if, some_or, word_or}
 use Rattle.jbig2_base.specs.Combination.{combined_grid}
 use Rattle.jbig2_base.specs.Grid.{Grid, check_sides}
 use Rattle.jbig2_base.specs.declared.error.DecodeError.{DecodeError}
@@ -13,7 +13,6 @@ use Rattle.jbig2_base.specs.declared.error.DecodeError.TheVariants.{Overflow, Sy
 use Rattle.jbig2_base.specs.declared.error.OverflowError.TheVariants.{BitmapDimension, PlacementCoordinate}
 use Rattle.jbig2_base.specs.declared.error.OverflowError.TheVariants.{ReferenceOffset}
 use Rattle.jbig2_base.specs.declared.error.SymbolError.TheVariants.{InvalidStripDelta, OutOfRange, TooManyInstances}
-use Rattle.jbig2_base.specs.Fields.{word_or}
 use Rattle.jbig2_region.specs.Refinement.{Reference}
 use Rattle.jbig2_text.specs.Refining.{Refining}
 use Rattle.jbig2_text.specs.declared.cursor.Cursor.{Cursor}

@@ -10,13 +10,13 @@ use Rattle.jbig2_base.specs.declared.error.DecodeError.TheVariants.{Symbol}
 use Rattle.jbig2_base.specs.declared.error.SymbolError.TheVariants.{UnexpectedOob}
 use Rattle.jbig2_coder.specs.Coder.{Coder, fresh, initial_registers, is_within}
 use Rattle.jbig2_coder.specs.Integers.{Ids, id, value_of_bits, Procedures, integer_by, fresh_procedures}
-use Rattle.jbig2_coder.specs.PrefixCode.{Member, decoded_value}
+use Rattle.jbig2_coder.specs.PrefixCode.{Member, decoded_value, value_at}
 use Rattle.jbig2_coder.specs.declared.integer_procedures.IntegerProcedure.{IntegerProcedure}
 use Rattle.jbig2_coder.specs.declared.integer_procedures.IntegerProcedure.TheVariants.{Iads, Iadt, Iafs, Iait, Iardh}
 use Rattle.jbig2_coder.specs.declared.integer_procedures.IntegerProcedure.TheVariants.{Iardw, Iardx, Iardy, Iari}
 use Rattle.jbig2_region.specs.Refinement.{Reference}
 use Rattle.jbig2_text.specs.Refining.{Refining, refined_with}
-use Rattle.jbig2_text.specs.SymbolCodes.{invalid_code, value_at}
+use Rattle.jbig2_text.specs.SymbolCodes.{invalid_code}
 use Rattle.jbig2_text.specs.Text.{Readings}
 
 -- ---- by the arithmetic coder

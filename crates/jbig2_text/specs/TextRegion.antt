@@ -34,18 +34,6 @@ one_of_three first second third n customs =
     if n == 0 then standard first customs else if n == 1 then standard second customs
     else if n == 2 then standard third customs else next_custom customs
 
-abbrev pub aggregate_tables : TextTables  -- the tables of an aggregate symbol's instances (6.5.8.2, Table 17)
-aggregate_tables = record {
-  first_s = prefix_code lines_f;
-  delta_s = prefix_code lines_h;
-  delta_t = prefix_code lines_k;
-  refinement_width = prefix_code lines_o;
-  refinement_height = prefix_code lines_o;
-  refinement_x = prefix_code lines_o;
-  refinement_y = prefix_code lines_o;
-  refinement_size = prefix_code lines_a;
-}
-
 -- all tables, in the order of the flags' bits
 unfoldable pub text_tables : TextRegionHuffmanFlags → List (List Member) → Result TextTables DecodeError
 text_tables flags customs = do

@@ -8,14 +8,15 @@ ghost use Rattle.jbig2_text.specs.Text.{with_symbol, with_instance, after_instan
 ghost use Rattle.jbig2_text.specs.inner.FunctionResults.{KeepsSize, reaching, some_strips, strips, with_last, with_next_instance};
 ghost use Rattle.jbig2_text.specs.inner.TextViews.{params_view, symbol_view};
 
+use crate::coordinates;
 use crate::cursor::Cursor;
 use crate::header::TextRegionFlags;
-use crate::numbers;
+use crate::params::TextParams;
 use crate::placement::place;
 use crate::readings::ReadInstances;
 use crate::refining::Refining;
 use crate::strips::{begin_strip, check_end, move_on, read_strip_delta, read_t_in_strip};
-use crate::symbols::{InstanceSymbol, TextParams, read_symbol};
+use crate::symbols::{InstanceSymbol, read_symbol};
 use jbig2_base::bitmap::Bitmap;
 use jbig2_base::error::{Result, SymbolError};
 use jbig2_steps::{Work, prices};
@@ -70,7 +71,7 @@ pub(crate) fn draw_instance<R: ReadInstances, A: Allocator + Clone, L: Ledger>(
     ensures paid { PaidBut (number_steps 7) work.old work.new }
 {
     let t = read_t_in_strip(readings, &params.flags, work)?;
-    let t = numbers::place_after(cursor.strip_t, t)?;
+    let t = coordinates::place_after(cursor.strip_t, t)?;
     let id = readings.id(work)?;
     let alloc = refining.allocator().clone()?;
     let symbol = read_symbol(alloc, readings, refining, params, id, work)?;
@@ -220,7 +221,7 @@ fn draw_instances<R: ReadInstances, A: Allocator + Clone, L: Ledger>(
         return Err(SymbolError::TooManyInstances.into());
     }
     let delta = read_strip_delta(readings, &params.flags, work)?;
-    let strip_t = numbers::opposite(delta)?;
+    let strip_t = coordinates::opposite(delta)?;
     draw_strips(readings, refining, params, strip_t, region, work)
 }
 

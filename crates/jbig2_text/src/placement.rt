@@ -5,8 +5,8 @@ ghost use Rattle.jbig2_text.specs.Text.{is_right, is_bottom, is_last_along_s, fa
 ghost use Rattle.jbig2_text.specs.inner.FunctionResults.{s_before, s_after};
 ghost use Rattle.jbig2_text.specs.inner.TextViews.{instance_view, symbol_view};
 
+use crate::coordinates;
 use crate::header::{ReferenceCorner, TextRegionFlags};
-use crate::numbers;
 use crate::symbols::InstanceSymbol;
 use jbig2_base::error::Result;
 use std::alloc::Allocator;
@@ -57,9 +57,9 @@ fn far_end<A: Allocator>(
     ensures { Returns (λ n. n) result (far_end flags.now (symbol_view symbol.now) s) }
 {
     if flags.transposed {
-        return numbers::last_of(s, symbol.height());
+        return coordinates::last_of(s, symbol.height());
     }
-    numbers::last_of(s, symbol.width())
+    coordinates::last_of(s, symbol.width())
 }
 
 /// S where a symbol is placed.
@@ -95,7 +95,7 @@ fn edge(at_last: bool, side: u32, place: i32) -> Result<i32>
     ensures { Returns (λ n. n) result (edge at_last side place) }
 {
     if at_last {
-        return numbers::first_of(place, side);
+        return coordinates::first_of(place, side);
     }
     Ok(place)
 }

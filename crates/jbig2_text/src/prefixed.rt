@@ -4,7 +4,6 @@ ghost use Rattle.jbig2_base.specs.Results.{Returns};
 ghost use Rattle.jbig2_text.specs.TextCoding.{sized_bytes};
 ghost use Rattle.jbig2_text.specs.inner.TextViews.{prefixed_view};
 
-use crate::code_field::value_field;
 use crate::readings::ReadInstances;
 use crate::refining::Refining;
 use crate::tables::TextRegionHuffmanTables;
@@ -50,11 +49,11 @@ impl<A: Allocator> ReadInstances for PrefixedReadings<'_, '_, A> {
     ghost readings = { by_prefix_codes };
 
     fn delta_t<L: Ledger>(&mut self, _work: &mut Work<L>) -> Result<i32> {
-        value_field(self.tables.delta_t, &mut self.reader)
+        self.tables.delta_t.decode_no_oob(&mut self.reader)
     }
 
     fn first_s<L: Ledger>(&mut self, _work: &mut Work<L>) -> Result<i32> {
-        value_field(self.tables.first_s, &mut self.reader)
+        self.tables.first_s.decode_no_oob(&mut self.reader)
     }
 
     fn delta_s<L: Ledger>(&mut self, _work: &mut Work<L>) -> Result<Option<i32>> {
@@ -67,7 +66,7 @@ impl<A: Allocator> ReadInstances for PrefixedReadings<'_, '_, A> {
     }
 
     fn id<L: Ledger>(&mut self, _work: &mut Work<L>) -> Result<i64> {
-        let id = value_field(self.ids, &mut self.reader)?;
+        let id = self.ids.decode_no_oob(&mut self.reader)?;
         Ok(i64::from(id))
     }
 
@@ -77,19 +76,21 @@ impl<A: Allocator> ReadInstances for PrefixedReadings<'_, '_, A> {
     }
 
     fn width_delta<L: Ledger>(&mut self, _work: &mut Work<L>) -> Result<i32> {
-        value_field(self.tables.refinement_width, &mut self.reader)
+        self.tables.refinement_width.decode_no_oob(&mut self.reader)
     }
 
     fn height_delta<L: Ledger>(&mut self, _work: &mut Work<L>) -> Result<i32> {
-        value_field(self.tables.refinement_height, &mut self.reader)
+        self.tables
+            .refinement_height
+            .decode_no_oob(&mut self.reader)
     }
 
     fn x_delta<L: Ledger>(&mut self, _work: &mut Work<L>) -> Result<i32> {
-        value_field(self.tables.refinement_x, &mut self.reader)
+        self.tables.refinement_x.decode_no_oob(&mut self.reader)
     }
 
     fn y_delta<L: Ledger>(&mut self, _work: &mut Work<L>) -> Result<i32> {
-        value_field(self.tables.refinement_y, &mut self.reader)
+        self.tables.refinement_y.decode_no_oob(&mut self.reader)
     }
 
     fn refine<B: Allocator, L: Ledger>(
@@ -99,7 +100,7 @@ impl<A: Allocator> ReadInstances for PrefixedReadings<'_, '_, A> {
         bitmap: &mut Bitmap<B>,
         work: &mut Work<L>,
     ) -> Result<()> {
-        let size = value_field(self.tables.refinement_size, &mut self.reader)?;
+        let size = self.tables.refinement_size.decode_no_oob(&mut self.reader)?;
         let bytes = sized_bytes(size, &mut self.reader)?;
         let mut decoder = ArithmeticDecoder::new(bytes);
         refining.refine(reference, bitmap, &mut decoder, work);

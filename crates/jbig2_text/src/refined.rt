@@ -8,13 +8,12 @@ ghost use Rattle.jbig2_text.specs.Paying.{number_steps};
 ghost use Rattle.jbig2_text.specs.Text.{refinement_deltas, refined_outline, refined_symbol};
 ghost use Rattle.jbig2_text.specs.inner.TextViews.{list_view};
 
-use crate::numbers;
+use crate::coordinates;
 use crate::readings::ReadInstances;
 use crate::refining::Refining;
 use crate::symbol_list::SymbolList;
-use jbig2_base::bitmap::Bitmap;
+use jbig2_base::bitmap::{Bitmap, check_sides};
 use jbig2_base::error::{Result, SymbolError};
-use jbig2_region::decoded_region::check_sides;
 use jbig2_region::generic_refinement::ReferenceBitmap;
 use jbig2_steps::Work;
 use std::alloc::Allocator;
@@ -65,10 +64,10 @@ fn read_deltas<R: ReadInstances, L: Ledger>(
 fn outline_of<A: Allocator>(from: &Bitmap<A>, deltas: &RefinementDeltas) -> Result<Outline>
     ensures { Returns (λ o. o) result (refined_outline from.now deltas.now) }
 {
-    let width = numbers::refined_side(from.width(), deltas.width)?;
-    let height = numbers::refined_side(from.height(), deltas.height)?;
-    let dx = numbers::reference_offset(deltas.width, deltas.x)?;
-    let dy = numbers::reference_offset(deltas.height, deltas.y)?;
+    let width = coordinates::refined_side(from.width(), deltas.width)?;
+    let height = coordinates::refined_side(from.height(), deltas.height)?;
+    let dx = coordinates::reference_offset(deltas.width, deltas.x)?;
+    let dy = coordinates::reference_offset(deltas.height, deltas.y)?;
     Ok(Outline {
         width,
         height,

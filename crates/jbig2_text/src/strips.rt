@@ -6,9 +6,9 @@ ghost use Rattle.jbig2_text.specs.Paying.{number_steps};
 ghost use Rattle.jbig2_text.specs.Text.{strip_delta, strip_start, with_ids, next_cursor, t_in_strip};
 ghost use Rattle.jbig2_text.specs.inner.FunctionResults.{end_of_strip};
 
+use crate::coordinates;
 use crate::cursor::Cursor;
 use crate::header::TextRegionFlags;
-use crate::numbers;
 use crate::readings::ReadInstances;
 use jbig2_base::error::{Result, SymbolError};
 use jbig2_steps::Work;
@@ -27,7 +27,7 @@ pub fn read_strip_delta<R: ReadInstances, L: Ledger>(
     ensures paid { PaidBut (number_steps 1) work.old work.new }
 {
     let delta = readings.delta_t(work)?;
-    numbers::strips(delta, flags.log_strip_size)
+    coordinates::strips(delta, flags.log_strip_size)
 }
 
 /// Begins a strip. Gives the place of its first instance, from the T and first S of the last strip.
@@ -46,9 +46,9 @@ pub fn begin_strip<R: ReadInstances, L: Ledger>(
     ensures paid { PaidBut (number_steps 2) work.old work.new }
 {
     let delta = read_strip_delta(readings, flags, work)?;
-    let strip_t = numbers::place_after(strip_t, delta)?;
+    let strip_t = coordinates::place_after(strip_t, delta)?;
     let first = readings.first_s(work)?;
-    let first_s = numbers::place_after(first_s, first)?;
+    let first_s = coordinates::place_after(first_s, first)?;
     Ok(Cursor {
         strip_t,
         first_s,
@@ -73,8 +73,8 @@ fn move_by<R: ReadInstances, L: Ledger>(
     let Some(delta) = delta else {
         return begin_strip(readings, flags, cursor.strip_t, cursor.first_s, work);
     };
-    let after_ids = numbers::place_after(cursor.cur_s, delta)?;
-    let cur_s = numbers::place_after(after_ids, i32::from(flags.delta_s_offset))?;
+    let after_ids = coordinates::place_after(cursor.cur_s, delta)?;
+    let cur_s = coordinates::place_after(after_ids, i32::from(flags.delta_s_offset))?;
     Ok(Cursor { cur_s, ..cursor })
 }
 

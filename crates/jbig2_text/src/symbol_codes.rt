@@ -7,7 +7,6 @@ ghost use Rattle.jbig2_text.specs.SymbolCodes.{invalid_code, lines_from, short_l
 ghost use Rattle.jbig2_base.specs.Causes.{HasCauseOrNoMemory};
 ghost use Rattle.jbig2_text.specs.Causes.{BreaksSymbolCodes};
 
-use crate::code_field::value_field;
 use jbig2_base::error::{DecodeError, HuffmanError, Result};
 use jbig2_base::field::bits_field;
 use jbig2_base::reader::Reader;
@@ -124,7 +123,7 @@ fn read_run<A: Allocator>(
     ensures { let meant = next_runcode runcodes.now lengths.old.items reader.old in
         Gives (λ _. (lengths.new.items, reader.new)) result meant }
 {
-    let runcode = value_field(runcodes, reader)?;
+    let runcode = runcodes.decode_no_oob(reader)?;
     push_run(runcode, reader, lengths)
 }
 

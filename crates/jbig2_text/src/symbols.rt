@@ -8,6 +8,7 @@ ghost use Rattle.jbig2_text.specs.inner.FunctionResults.{refinement_flag};
 ghost use Rattle.jbig2_text.specs.inner.TextViews.{list_view, params_view, symbol_view};
 
 use crate::header::TextRegionFlags;
+use crate::params::TextParams;
 use crate::readings::ReadInstances;
 use crate::refined::read_refined;
 use crate::refining::Refining;
@@ -17,18 +18,6 @@ use jbig2_base::error::{Result, SymbolError};
 use jbig2_steps::Work;
 use std::alloc::Allocator;
 use std::sync::ledger::Ledger;
-
-/// What is needed to read and place the instances of a text region (T.88, Table 9).
-#[derive(Drop)]
-pub struct TextParams<'a, A: Allocator> {
-    pub flags: TextRegionFlags,
-    pub symbols: SymbolList<'a, A>,
-    pub num_instances: u32,
-    /// The number of bytes in the segment's data.
-    pub data_len: usize,
-    /// Whether ids without a symbol and a strip that does not end are refused.
-    pub strict: bool,
-}
 
 /// The symbol of an instance, as it is in the list or refined.
 pub enum InstanceSymbol<'a, A: Allocator> {

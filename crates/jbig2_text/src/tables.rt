@@ -1,8 +1,7 @@
 //! The tables of a text region (T.88, 7.4.3.1.6).
-ghost use Rattle.std.specs.Prelude.{◌≡◌};
 ghost use Rattle.jbig2_base.specs.Results.{Returns};
 ghost use Rattle.jbig2_coder.specs.inner.TableViews.{customs_view};
-ghost use Rattle.jbig2_text.specs.TextRegion.{aggregate_tables, one_of_two, one_of_three, text_tables};
+ghost use Rattle.jbig2_text.specs.TextRegion.{one_of_two, one_of_three, text_tables};
 ghost use Rattle.jbig2_text.specs.inner.FunctionResults.{table_of_refinement, table_of_size};
 ghost use Rattle.jbig2_text.specs.inner.TextViews.{tables_view};
 ghost use Rattle.jbig2_base.specs.Causes.{HasCause};
@@ -26,24 +25,6 @@ pub struct TextRegionHuffmanTables<'a, A: Allocator> {
     pub refinement_x: &'a HuffmanTable<A>,
     pub refinement_y: &'a HuffmanTable<A>,
     pub refinement_size: &'a HuffmanTable<A>,
-}
-
-impl<'a, A: Allocator> TextRegionHuffmanTables<'a, A> {
-    /// The tables of an aggregate symbol's instances (T.88, 6.5.8.2, Table 17).
-    pub fn of_aggregates(standard: &'a StandardHuffmanTables<A>) -> TextRegionHuffmanTables<'a, A>
-        ensures { tables_view result ≡ aggregate_tables }
-    {
-        TextRegionHuffmanTables {
-            first_s: standard.table_f(),
-            delta_s: standard.table_h(),
-            delta_t: standard.table_k(),
-            refinement_width: standard.table_o(),
-            refinement_height: standard.table_o(),
-            refinement_x: standard.table_o(),
-            refinement_y: standard.table_o(),
-            refinement_size: standard.table_a(),
-        }
-    }
 }
 
 /// The table that a number names: one of these two, or a custom one for 3; and the rest of

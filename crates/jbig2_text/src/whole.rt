@@ -13,15 +13,14 @@ ghost use Rattle.jbig2_text.specs.inner.TextViews.{header_view, params_view, sym
 use crate::cursor::Cursor;
 use crate::header::{TextRegionCoding, TextRegionFlags, TextRegionHeader};
 use crate::instances::{INSTANCES_PER_BYTE, draw_instance, is_too_many};
+use crate::params::TextParams;
 use crate::readings::ReadInstances;
 use crate::refining::Refining;
 use crate::strips::{begin_strip, move_on, read_strip_delta};
-use crate::symbols::TextParams;
 use crate::{numbers, params_of, refining_of, start_coded, start_prefixed};
-use jbig2_base::bitmap::Bitmap;
+use jbig2_base::bitmap::{Bitmap, check_sides};
 use jbig2_base::error::{DecodeError, Result};
 use jbig2_coder::huffman_table::{HuffmanTable, StandardHuffmanTables};
-use jbig2_region::decoded_region::check_sides;
 use jbig2_steps::{Work, prices};
 use std::alloc::Allocator;
 use std::sync::ledger::Ledger;
@@ -59,7 +58,7 @@ fn find_first<R: ReadInstances, L: Ledger>(
     ensures paid { PaidBut (number_steps 3) work.old work.new }
 {
     let delta = read_strip_delta(readings, flags, work)?;
-    let strip_t = numbers::opposite(delta)?;
+    let strip_t = coordinates::opposite(delta)?;
     begin_strip(readings, flags, strip_t, 0, work)
 }
 

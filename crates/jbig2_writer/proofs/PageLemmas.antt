@@ -13,7 +13,7 @@ use Rattle.jbig2_region.specs.Generic.{generic_coding}
 use Rattle.jbig2_region.specs.Templates.{nominal_adaptive_pixels, takes_extended, adaptive_pixel_count}
 use Rattle.jbig2_region.specs.declared.template.Template.{Template}
 use Rattle.jbig2_region.specs.declared.template.Template.TheVariants.{Template0, Template1, Template2, Template3}
-use Rattle.jbig2_inverses.specs.BitmapWriter.{mmr_bytes}
+use Rattle.jbig2_inverses.specs.MmrWriter.{mmr_bytes}
 use Rattle.jbig2_inverses.specs.FileWriter.{file_header_bytes}
 use Rattle.jbig2_inverses.specs.GenericSegmentWriter.{AreAdaptive, adaptive_bytes, generic_bytes, info_bytes}
 use Rattle.jbig2_inverses.specs.RegionWriter.{entries_before, generic_entries, is_typical}

@@ -4,16 +4,16 @@ use Rattle.jbig2_base.specs.Grid.{grid_of, pixel_at, table}
 use Rattle.jbig2_base.specs.Search.{least}
 use Rattle.jbig2_coder.specs.Coder.{likely_next, unlikely_next}
 use Rattle.jbig2_coder.specs.Encoder.{byte_out, eight_bits_out, encode_from, encoded_bytes, encoding, flush_coder, initial_coding, is_full, narrowed_interval, narrowed_likely, narrowed_unlikely, renorme, set_bits, seven_bits_out, shift_once, with_context, with_marker}
-use Rattle.jbig2_coder.specs.Table.{qe_row, rows}
+use Rattle.jbig2_coder.specs.QeTable.{qe_row, rows}
 use Rattle.jbig2_region.specs.declared.template.Template.TheVariants.{Template0, Template3}
 use Rattle.jbig2_region.specs.Generic.{context_at}
 use Rattle.jbig2_region.specs.Raster.{so_far}
 use Rattle.jbig2_mmr.specs.T6Codes.{modes, longer_runs, white_runs, black_runs}
 use Rattle.jbig2_mmr.specs.T6.{is_change, is_change_from, b1_of, b2_of}
-use Rattle.jbig2_inverses.specs.BitmapWriter.{rows_bits, packed, mmr_bits, mmr_bytes}
+use Rattle.jbig2_inverses.specs.MmrWriter.{rows_bits, packed, mmr_bits, mmr_bytes}
 use Rattle.jbig2_inverses.specs.GenericSegmentWriter.{generic_bytes, info_bytes}
 use Rattle.jbig2_inverses.specs.RegionWriter.{entries_before, generic_entries, pixels_before}
-use Rattle.jbig2_inverses.specs.RowWriter.{word_of, run_bits, code_of, bits_from, row_bits}
+use Rattle.jbig2_inverses.specs.MmrRowWriter.{word_of, run_bits, code_of, bits_from, row_bits}
 use Rattle.jbig2_inverses.specs.SegmentWriter.{information_bytes, segment_bytes}
 use Rattle.jbig2_page_inverse.specs.PageWriter.{coded_bytes, page_bytes}
 use Rattle.jbig2_writer.specs.declared.error.WriteError.TheVariants.{InvalidSides}

@@ -1,7 +1,7 @@
 //! The probability states of the adaptive coder (T.88, Table E.1).
 
 ghost use Rattle.std.specs.Prelude.{◌≡◌, ◌/◌, ◌<◌, ◌≤◌};
-ghost use Rattle.jbig2_coder.specs.Table.{qe_row};
+ghost use Rattle.jbig2_coder.specs.QeTable.{qe_row};
 ghost use Rattle.jbig2_coder.specs.Coder.{likely_next, unlikely_next};
 ghost use Rattle.jbig2_coder.specs.inner.States.{context_in_state};
 

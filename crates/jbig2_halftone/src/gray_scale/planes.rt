@@ -9,7 +9,7 @@ ghost use Rattle.jbig2_region.specs.Templates.{context_bits};
 ghost use Rattle.jbig2_region.specs.inner.RegionStates.{DecodesRegion, region_state};
 ghost use Rattle.jbig2_halftone.specs.GrayScale.{after_planes, gray_values, image_is_too_large, mmr_plane, planes_of};
 ghost use Rattle.jbig2_halftone.specs.Steps.{CountsImage, StopsImage, cleared_by_planes, words_of_plane};
-ghost use Rattle.jbig2_halftone.specs.inner.HalftoneViews.{gray_view};
+ghost use Rattle.jbig2_halftone.specs.inner.GrayScaleViews.{gray_view};
 ghost use Rattle.jbig2_halftone.specs.inner.FunctionResults.{plane_coding, planes_by_coder, planes_by_mmr, planes_contexts, values_of, CountsCoded, CountsMmr, CountsOne, MovesByMmr, StopsCoded, StopsMmr};
 
 use crate::gray_scale::GrayScaleParams;

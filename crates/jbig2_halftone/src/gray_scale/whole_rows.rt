@@ -8,7 +8,7 @@ ghost use Rattle.jbig2_region.specs.Templates.{context_bits};
 ghost use Rattle.jbig2_halftone.specs.Steps.{price_of_image};
 ghost use Rattle.jbig2_halftone.specs.WholeCells.{whole_image_rows};
 ghost use Rattle.jbig2_halftone.specs.inner.FunctionResults.{whole_coded_rows, mmr_rows_left};
-ghost use Rattle.jbig2_halftone.specs.inner.HalftoneViews.{gray_view};
+ghost use Rattle.jbig2_halftone.specs.inner.GrayScaleViews.{gray_view};
 
 use crate::gray_scale::GrayScaleParams;
 use crate::gray_scale::planes::{decode_plane, read_mmr_plane};

@@ -1,9 +1,11 @@
 -- What the single calls of a T.6 decoder state (our own rule).
 use Rattle.std.specs.Prelude.{◌≡◌, ℕ, zero, suc, ◌+◌, ◌*◌, ◌/◌, ◌%◌, ◌<◌, ◌≤◌, Bool, true, false, List, [], ◌∷◌, ◌++◌}
-use Rattle.std.specs.Prelude.{length, drop, replicate, Option, Some, None, if◌then◌else◌}
+use Rattle.std.specs.Prelude.{length, drop, replicate, Option, Some, None, if◌then◌else◌, ◌-◌, ℤ, pos, ◌-ℤ◌, ◌≤ℤ◌}
 use Rattle.jbig2_base.specs.Grid.{Grid, pixel_at, differ}
 use Rattle.jbig2_base.specs.Table.{IsTable}
 use Rattle.jbig2_mmr.specs.T6.{begins, ends_block, Head, black_at}
+use Rattle.jbig2_mmr.specs.declared.mmr.codes.Mode.TheVariants.{Horizontal, Pass, Vertical}
+use Rattle.jbig2_mmr.specs.declared.mmr.codes.Mode.{Mode}
 
 -- the lowest n bits of a number, high bit first, and then other bits
 abbrev pub spell : ℕ → ℕ → List ℕ → List ℕ
@@ -81,3 +83,12 @@ pub record IsTurn (w : ℕ) (h : Head) (added : List ℕ) (turn : ℕ) (next : H
   pub before : (x : ℕ) → x < turn → black_at added x ≡ false
   pub between : (x : ℕ) → turn ≤ x → x < next.a0 → black_at added x ≡ true
   pub following : (x : ℕ) → next.a0 ≤ x → differ h.black (black_at added x) ≡ next.black
+
+abbrev pub IsWithinThree : ℤ → Type 0  -- a distance of at most three pixels to the left (T.6, table 1)
+IsWithinThree distance = (pos 0 -ℤ pos 3) ≤ℤ distance
+
+abbrev pub IsNearMode : Option Mode → Type 0  -- the same for the distance of a vertical mode
+IsNearMode None = Unit {0}
+IsNearMode (Some Pass) = Unit {0}
+IsNearMode (Some Horizontal) = Unit {0}
+IsNearMode (Some (Vertical distance)) = IsWithinThree distance

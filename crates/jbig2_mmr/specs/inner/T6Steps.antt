@@ -1,7 +1,5 @@
 -- How many loads and words the single calls of a T.6 decoder count (our own rule).
-use Rattle.std.specs.Prelude.{ℕ, ◌+◌, ◌-◌, ◌/◌, min, Bool, if◌then◌else◌, Option, Some, None, ℤ, pos, ◌-ℤ◌, ◌≤ℤ◌}
-use Rattle.jbig2_mmr.specs.declared.mmr.codes.Mode.{Mode}
-use Rattle.jbig2_mmr.specs.declared.mmr.codes.Mode.TheVariants.{Pass, Horizontal, Vertical}
+use Rattle.std.specs.Prelude.{ℕ, ◌+◌, ◌-◌, ◌/◌, min, Bool, if◌then◌else◌, Option, Some, None}
 use Rattle.jbig2_mmr.specs.declared.mmr.row.Turn.{Turn}
 
 -- how many words of a row of w columns come after that of column a, up to that of column b or the last one
@@ -18,12 +16,3 @@ span_words from to = (to + 63) / 64 - from / 64
 
 abbrev pub bits_taken : Bool → ℕ → ℕ → ℕ  -- how many bits a row takes that leaves `left`; all at a fault
 bits_taken whole bits left = if whole then bits - left else bits
-
-abbrev pub IsWithinThree : ℤ → Type 0  -- a distance of at most three pixels to the left (T.6, table 1)
-IsWithinThree distance = (pos 0 -ℤ pos 3) ≤ℤ distance
-
-abbrev pub IsNearMode : Option Mode → Type 0  -- the same for the distance of a vertical mode
-IsNearMode None = Unit {0}
-IsNearMode (Some Pass) = Unit {0}
-IsNearMode (Some Horizontal) = Unit {0}
-IsNearMode (Some (Vertical distance)) = IsWithinThree distance

@@ -4,8 +4,7 @@ ghost use Rattle.jbig2_base.specs.Bits.{number_after};
 ghost use Rattle.jbig2_mmr.specs.T6.{read_code, run, bits_of, ends_block, is_prefix_free, runs_of};
 ghost use Rattle.jbig2_mmr.specs.T6Codes.{modes};
 ghost use Rattle.jbig2_base.specs.inner.BitLists.{AreBits};
-ghost use Rattle.jbig2_mmr.specs.inner.T6Reading.{with_rest, ReadRun, after_end, padded_bits};
-ghost use Rattle.jbig2_mmr.specs.inner.T6Steps.{IsNearMode};
+ghost use Rattle.jbig2_mmr.specs.inner.T6Reading.{with_rest, ReadRun, after_end, padded_bits, IsNearMode};
 
 use crate::mmr::codes::modes::MODES;
 use crate::mmr::codes::{Mode, run_entry};

@@ -6,8 +6,8 @@ ghost use Rattle.jbig2_base.specs.Grid.{pixel_at};
 ghost use Rattle.jbig2_base.specs.Table.{IsTable};
 ghost use Rattle.jbig2_mmr.specs.T6.{b1_of, after_pass, after_vertical, after_runs, next_step, row};
 ghost use Rattle.jbig2_mmr.specs.inner.T6Calls.{IsWordOf, ReadStep, ReadRow, head_of};
-ghost use Rattle.jbig2_mmr.specs.inner.T6Reading.{row_above, pixels_of_row};
-ghost use Rattle.jbig2_mmr.specs.inner.T6Steps.{IsWithinThree, bits_taken, turn_loads, words_after};
+ghost use Rattle.jbig2_mmr.specs.inner.T6Reading.{row_above, pixels_of_row, IsWithinThree};
+ghost use Rattle.jbig2_mmr.specs.inner.T6Steps.{bits_taken, turn_loads, words_after};
 ghost use Rattle.jbig2_mmr.specs.Steps.{MovesWithin};
 
 use crate::mmr::bits::CodeReader;

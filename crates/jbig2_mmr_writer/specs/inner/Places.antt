@@ -6,7 +6,7 @@ use Rattle.jbig2_base.specs.Search.{place_from}
 use Rattle.jbig2_mmr.specs.T6.{Head}
 use Rattle.jbig2_mmr.specs.declared.mmr.codes.Mode.TheVariants.{Horizontal}
 use Rattle.jbig2_mmr.specs.inner.T6Reading.{pixels_of_row}
-use Rattle.jbig2_inverses.specs.RowWriter.{Code, code_of, mode_word, run_bits}
+use Rattle.jbig2_inverses.specs.MmrRowWriter.{Code, code_of, mode_word, run_bits}
 use Rattle.jbig2_mmr_writer.specs.declared.changes.Place.{Place}
 
 abbrev pub head_of : Place → Head  -- the state, as the definition has it

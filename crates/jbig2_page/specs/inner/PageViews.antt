@@ -9,8 +9,9 @@ use Rattle.jbig2_base.specs.declared.error.OverflowError.TheVariants.{ReferenceO
 use Rattle.jbig2_region.specs.RegionInfo.{PlacedRegion}
 use Rattle.jbig2_region.specs.Refinement.{is_far}
 use Rattle.jbig2_region.specs.declared.region_info.RegionSegmentInfo.{RegionSegmentInfo}
-use Rattle.jbig2_page.specs.Names.{Names, KeptGlobals, no_names}
+use Rattle.jbig2_page.specs.Names.{Names, no_names}
 use Rattle.jbig2_page.specs.Regions.{page_area}
+use Rattle.jbig2_page.specs.Globals.{KeptGlobals}
 
 -- the page's area, unless it lies too far to be refined
 abbrev pub near_area : Grid → RegionSegmentInfo → Result PlacedRegion DecodeError

@@ -15,13 +15,13 @@ use Rattle.jbig2_halftone.specs.Halftone.{halftone_result}
 use Rattle.jbig2_halftone.specs.inner.DictionaryViews.{dictionary_view}
 use Rattle.jbig2_halftone.specs.HalftoneHeader.{HalftoneHeader}
 use Rattle.jbig2_text.specs.TextRegion.{text_result}
-use Rattle.jbig2_page.specs.Names.{nothing_passed}
 use Rattle.jbig2_page.specs.Page.{Drawing}
 use Rattle.jbig2_page.specs.declared.region.parsed_region.ParsedRegion.{ParsedRegion}
 use Rattle.jbig2_page.specs.declared.region.parsed_region.ParsedRegion.TheVariants.{Text, Halftone, Generic}
 use Rattle.jbig2_page.specs.declared.region.parsed_region.ParsedRegion.TheVariants.{Refinement, PageRefinement, Part}
 use Rattle.jbig2_page.specs.declared.region.references.References.{References}
 use Rattle.jbig2_page.specs.inner.KeptViews.{kept_values}
+use Rattle.jbig2_page.specs.PassedOver.{nothing_passed}
 use Rattle.jbig2_region.specs.inner.GenericViews as generics
 use Rattle.jbig2_region.specs.inner.RefinedViews as refinements
 use Rattle.jbig2_halftone.specs.inner.HalftoneHeaderViews as halftones

@@ -1,6 +1,5 @@
 //! The page while its segments are drawn: its bitmap, the intermediate regions that are kept, and what was passed over.
 ghost use Rattle.std.specs.Prelude.{◌≡◌, ◌==◌, ◌*◌, ◌<◌, ◌≤◌, [], true, false, Ok, Some, if◌then◌else◌};
-ghost use Rattle.jbig2_page.specs.Names.{with_passed};
 ghost use Rattle.jbig2_base.specs.Grid.{max_side};
 ghost use Rattle.jbig2_base.specs.Results.{Gives};
 ghost use Rattle.jbig2_framing.specs.inner.SegmentViews.{segment_view};
@@ -8,6 +7,7 @@ ghost use Rattle.jbig2_region.specs.inner.RegionViews.{region_view};
 ghost use Rattle.jbig2_page.specs.Image.{packed_of};
 ghost use Rattle.jbig2_page.specs.Page.{blank_page, empty_drawing, passing, with_cut_off, with_drawn_region, with_region};
 ghost use Rattle.jbig2_page.specs.inner.WholePages.{IsBlankPage};
+ghost use Rattle.jbig2_page.specs.PassedOver.{with_passed};
 ghost use Rattle.jbig2_steps.specs.Work.{PaidBut, paid_words, price_of_bitmap};
 
 use crate::drawing::drawn_rows::DrawnRows;

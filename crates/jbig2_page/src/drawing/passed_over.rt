@@ -1,6 +1,6 @@
 //! The segments that lenient reading or salvage passed over: how many, and why the first one failed.
 ghost use Rattle.std.specs.Prelude.{◌≡◌, ◌<◌};
-ghost use Rattle.jbig2_page.specs.Names.{nothing_passed, with_passed};
+ghost use Rattle.jbig2_page.specs.PassedOver.{nothing_passed, with_passed};
 
 use jbig2_base::error::DecodeError;
 

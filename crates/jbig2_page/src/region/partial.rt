@@ -1,27 +1,106 @@
 //! Regions whose data is cut off: what is there of them is decoded (our own rule).
-ghost use Rattle.std.specs.Prelude.{◌≤◌, IfOk};
+ghost use Rattle.std.specs.Prelude.{◌≤◌, IfOk, Ok};
+ghost use Rattle.jbig2_base.specs.Results.{Gives};
 ghost use Rattle.jbig2_base.specs.Grid.{max_side};
 ghost use Rattle.jbig2_halftone.specs.WholeCells.{halftone_part};
 ghost use Rattle.jbig2_halftone.specs.inner.DictionaryViews.{dictionary_view};
+ghost use Rattle.jbig2_page.specs.Regions.{with_whole_instances, with_whole_rows};
 ghost use Rattle.jbig2_page.specs.inner.ParsedRegions.{DecodesTo, IsDecodable};
+ghost use Rattle.jbig2_region.specs.GenericHeader.{IsParsed};
 ghost use Rattle.jbig2_region.specs.RefinementHeader.{IsRefinement};
-ghost use Rattle.jbig2_region.specs.WholeRows.{refined_part};
+ghost use Rattle.jbig2_region.specs.WholeRows.{refined_part, whole_generic_rows};
 ghost use Rattle.jbig2_region.specs.inner.RegionViews.{region_view};
 ghost use Rattle.jbig2_steps.specs.Work.{Paid};
 ghost use Rattle.jbig2_halftone.specs.inner.HalftoneHeaderViews as halftones;
+ghost use Rattle.jbig2_region.specs.inner.GenericViews as generics;
 ghost use Rattle.jbig2_region.specs.inner.RefinedViews as refinements;
+ghost use Rattle.jbig2_text.specs.inner.TextViews as texts;
 
+use crate::kept::referred::ReferredSegments;
 use crate::region::halftone::pay_cells;
 use crate::region::parsed_region::ParsedRegion;
 use crate::workspace::Workspace;
+use jbig2_base::bitmap::check_sides;
 use jbig2_base::error::Result;
 use jbig2_halftone::halftone::{self, HalftoneRegionHeader};
 use jbig2_halftone::pattern::PatternDictionary;
-use jbig2_region::decoded_region::{DecodedRegion, check_sides};
+use jbig2_region::decoded_region::DecodedRegion;
+use jbig2_region::generic::{self, GenericRegionHeader};
 use jbig2_region::generic_refinement::{self, GenericRefinementRegionHeader};
 use jbig2_steps::Work;
+use jbig2_text::header::TextRegionHeader;
 use std::alloc::Allocator;
 use std::sync::ledger::Ledger;
+
+/// How many rows of a generic region are whole. Takes the work of decoding it.
+fn whole_rows<A: Allocator + Clone, L: Ledger>(
+    header: &GenericRegionHeader<'_>,
+    workspace: &Workspace<A>,
+    work: &mut Work<L>,
+) -> Result<u32>
+    requires { IsParsed (generics.header_view header.now) }
+    ensures value { Gives (λ rows. rows) result (Ok (whole_generic_rows (generics.header_view header.now))) }
+    ensures paid { Paid work.old work.new }
+{
+    let info = &header.region_info;
+    work.pay(header.bytes.len() as u64)?;
+    work.pay_bitmap(info.width, info.height)?;
+    let mut contexts = Vec::new(workspace.alloc.clone()?);
+    generic::whole_rows(
+        workspace.alloc.clone()?,
+        header,
+        &mut contexts,
+        &mut work.steps,
+    )
+}
+
+/// Ends a generic region whose data is cut off after its whole rows.
+pub(crate) fn with_whole_rows<'a, A: Allocator + Clone, L: Ledger>(
+    is_partial: bool,
+    mut header: GenericRegionHeader<'a>,
+    workspace: &Workspace<A>,
+    work: &mut Work<L>,
+) -> Result<GenericRegionHeader<'a>>
+    requires { IsParsed (generics.header_view header) }
+    ensures value { Gives (λ h. generics.header_view h) result
+        (Ok (with_whole_rows is_partial (generics.header_view header.entry))) }
+    ensures parsed { IfOk result (λ h. IsParsed (generics.header_view h)) }
+    ensures paid { Paid work.old work.new }
+{
+    if is_partial {
+        header.region_info.height = whole_rows(&header, workspace, work)?;
+    }
+    Ok(header)
+}
+
+/// Ends a text region whose data is cut off after its whole instances.
+pub(crate) fn with_whole_instances<'a, A: Allocator + Clone, L: Ledger>(
+    is_partial: bool,
+    mut header: TextRegionHeader<'a, A>,
+    referred: &ReferredSegments<'_, A>,
+    workspace: &Workspace<A>,
+    work: &mut Work<L>,
+) -> Result<TextRegionHeader<'a, A>>
+    requires { header.flags.log_strip_size ≤ 3 }
+    ensures value { Gives (λ h. texts.header_view h) result
+        (Ok (with_whole_instances is_partial (texts.header_view header.entry) referred.now.symbols
+        referred.now.codes)) }
+    ensures strips { IfOk result (λ h. h.flags.log_strip_size ≤ 3) }
+    ensures paid { Paid work.old work.new }
+{
+    if is_partial {
+        header.strict = false;
+        header.num_instances = jbig2_text::whole_instances(
+            workspace.alloc.clone()?,
+            &header,
+            &referred.symbols,
+            &referred.tables,
+            &workspace.standard_tables,
+            work,
+        )?;
+    }
+    Ok(header)
+}
 
 /// Decodes what is there of a refinement. Takes the work of four bitmaps of its size.
 pub(crate) fn refined_part<'a, 'n, 'r, A: Allocator + Clone, L: Ledger>(

@@ -1,52 +1,21 @@
 //! Parses the text regions of a page, with the symbols that they draw (T.88, 7.4.3).
-ghost use Rattle.std.specs.Prelude.{IfOk, ◌≤◌, length, Ok};
-ghost use Rattle.jbig2_base.specs.Results.{Gives};
+ghost use Rattle.std.specs.Prelude.{IfOk};
 ghost use Rattle.jbig2_framing.specs.inner.SegmentViews.{segment_view};
-ghost use Rattle.jbig2_page.specs.Regions.{text_at, with_whole_instances};
+ghost use Rattle.jbig2_page.specs.Regions.{text_at};
 ghost use Rattle.jbig2_page.specs.inner.ParsedRegions.{IsDecodable, DecodesTo};
 ghost use Rattle.jbig2_steps.specs.Work.{Paid};
-ghost use Rattle.jbig2_text.specs.inner.TextViews.{header_view};
 
-use crate::kept::referred::{ReferredSegments, gather_referred};
+use crate::kept::referred::gather_referred;
 use crate::region::parsed_region::ParsedRegion;
+use crate::region::partial::with_whole_instances;
 use crate::region::references::References;
 use crate::workspace::Workspace;
 use jbig2_base::error::Result;
 use jbig2_base::reader::Reader;
 use jbig2_framing::segment::{Segment, is_partial};
 use jbig2_steps::Work;
-use jbig2_text::header::TextRegionHeader;
 use std::alloc::Allocator;
 use std::sync::ledger::Ledger;
-
-/// Ends a region whose data is cut off after its whole instances.
-fn with_whole_instances<'a, A: Allocator + Clone, L: Ledger>(
-    is_partial: bool,
-    mut header: TextRegionHeader<'a, A>,
-    referred: &ReferredSegments<'_, A>,
-    workspace: &Workspace<A>,
-    work: &mut Work<L>,
-) -> Result<TextRegionHeader<'a, A>>
-    requires { header.flags.log_strip_size ≤ 3 }
-    ensures value { Gives (λ h. header_view h) result
-        (Ok (with_whole_instances is_partial (header_view header.entry) referred.now.symbols
-        referred.now.codes)) }
-    ensures strips { IfOk result (λ h. h.flags.log_strip_size ≤ 3) }
-    ensures paid { Paid work.old work.new }
-{
-    if is_partial {
-        header.strict = false;
-        header.num_instances = jbig2_text::whole_instances(
-            workspace.alloc.clone()?,
-            &header,
-            &referred.symbols,
-            &referred.tables,
-            &workspace.standard_tables,
-            work,
-        )?;
-    }
-    Ok(header)
-}
 
 /// Parses a text region, after what it refers to.
 #[tactic(auto, unfolding(crate::specs::Regions::text_at, jbig2_text::specs::TextRegion::text_decoded))]

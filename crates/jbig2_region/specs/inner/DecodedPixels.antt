@@ -1,9 +1,10 @@
 -- Some decoded pixels of a row, and their decisions (our own rule).
 use Rattle.std.specs.Prelude.{◌≡◌, ◌+◌, ◌*◌, ℕ, Bool, List, Option, Some, None, length, slice_index_or, slice_set}
 use Rattle.jbig2_base.specs.Grid.{bit_number}
+use Rattle.jbig2_base.specs.Counts.{Counts}
 use Rattle.jbig2_coder.specs.Coder.{Decision, fresh, decision}
 use Rattle.jbig2_region.specs.inner.RowCounts.{decided_pixels}
-use Rattle.jbig2_region.specs.inner.RegionStates.{CountedDecoder, HasDecoded, RegionState}
+use Rattle.jbig2_region.specs.inner.RegionStates.{CountedDecoder, CountedRegion, HasDecoded, RegionState, without_counts}
 use Rattle.jbig2_region.specs.inner.Rows.{after_pixels}
 use Rattle.jbig2_region.specs.Raster.{Coding, Region}
 
@@ -41,3 +42,17 @@ TakesPixel (Some colour) k before n after = Knows colour before n after
 TakesPixel None k before n after =
     let context = slice_index_or before.contexts k fresh in
     Decides (decision before.coder.bytes before.coder.registers context) k before n after
+
+-- what no pixel of a raster counts: run tests, groups of lanes, single pixels and cleared words
+abbrev pub rest_of : Counts → ℕ × ℕ × ℕ × ℕ
+rest_of c = (c.run_tests, c.groups, c.pixels, c.cleared)
+
+-- The n pixels of row y from column x on are decoded, and their decisions are counted. The bitmap keeps its size, and
+-- the coder keeps its bytes.
+pub record DecodesPixels (coding : Coding) (predicted : Bool) (x y n : ℕ) (start end : CountedRegion) : Type 0 where
+  pub has_decoded : DecodesPart coding predicted x y n (without_counts start) (without_counts end)
+  pub width : end.grid.width ≡ start.grid.width
+  pub height : end.grid.height ≡ start.grid.height
+  pub bytes : end.coder.bytes ≡ start.coder.bytes
+  pub decisions : CountsPart coding predicted x y n (without_counts start) start.counts.decisions end.counts.decisions
+  pub rest : rest_of end.counts ≡ rest_of start.counts

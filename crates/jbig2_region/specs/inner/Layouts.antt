@@ -2,7 +2,7 @@
 use Rattle.std.specs.Prelude.{ℕ, ◌≡◌, false, List}
 use Rattle.jbig2_region.specs.inner.Neighbours.{IsMixed, adaptive_count, mixed_count, mixed_pixels}
 use Rattle.jbig2_region.specs.Templates.{adaptive_pixel_count, context_bits, template_pixels}
-use Rattle.jbig2_region.specs.declared.template.neighbours.Adaptives.{Adaptives}
+use Rattle.jbig2_region.specs.declared.template.layouts.Adaptives.{Adaptives}
 use Rattle.jbig2_region.specs.declared.template.neighbours.Neighbours.{Neighbours}
 use Rattle.jbig2_region.specs.declared.template.AdaptiveTemplatePixel.{AdaptiveTemplatePixel}
 use Rattle.jbig2_region.specs.declared.template.Template.{Template}

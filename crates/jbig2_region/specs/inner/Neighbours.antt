@@ -8,8 +8,8 @@ use Rattle.jbig2_region.specs.Generic.{context_at, known_colour}
 use Rattle.jbig2_region.specs.inner.RegionStates.{HasDecoded, RegionState}
 use Rattle.jbig2_region.specs.inner.Rows.{after_pixels}
 use Rattle.jbig2_region.specs.Raster.{Coding, Region}
-use Rattle.jbig2_region.specs.declared.template.neighbours.Adaptives.{Adaptives}
-use Rattle.jbig2_region.specs.declared.template.neighbours.Layout.{Layout}
+use Rattle.jbig2_region.specs.declared.template.layouts.Adaptives.{Adaptives}
+use Rattle.jbig2_region.specs.declared.template.layouts.Layout.{Layout}
 use Rattle.jbig2_region.specs.declared.template.neighbours.Neighbours.{Neighbours}
 use Rattle.jbig2_region.specs.declared.template.neighbours.Stretch.{Stretch}
 use Rattle.jbig2_region.specs.declared.template.AdaptiveTemplatePixel.{AdaptiveTemplatePixel}

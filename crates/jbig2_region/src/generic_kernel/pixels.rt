@@ -8,7 +8,8 @@ ghost use Rattle.jbig2_region.specs.inner.RegionStates.{region_state};
 
 use crate::generic_coding::context_at;
 use crate::generic_kernel::windows::{Place, Windows, stretch_bits, windows_at};
-use crate::template::neighbours::{Adaptives, Neighbours, join};
+use crate::template::layouts::Adaptives;
+use crate::template::neighbours::{Neighbours, join};
 use jbig2_base::bitmap::Bitmap;
 use jbig2_coder::arithmetic_decoder::{ArithmeticDecoder, ArithmeticDecoderContext};
 use jbig2_steps::Steps;

@@ -2,7 +2,7 @@
 ghost use Rattle.std.specs.Prelude.{◌≡◌, ◌==◌, ℕ, ◌+◌, ◌-◌, ◌*◌, ◌/◌, ◌%◌, ◌^◌, ◌<◌, ◌≤◌, false, true, max, min, nat_lt, length, slice_index_or, if◌then◌else◌};
 ghost use Rattle.jbig2_base.specs.Grid.{Grid, same_colour};
 ghost use Rattle.jbig2_coder.specs.Coder.{fresh};
-ghost use Rattle.jbig2_coder.specs.Table.{qe_row};
+ghost use Rattle.jbig2_coder.specs.QeTable.{qe_row};
 ghost use Rattle.jbig2_region.specs.inner.RegionStates.{HasDecoded, region_state};
 ghost use Rattle.jbig2_region.specs.inner.LongRuns.{is_run_for};
 ghost use Rattle.jbig2_region.specs.inner.Neighbours.{IsLeft, IsNear, ShowsRun, is_field, neighbour_count, neighbours_stay, nominal_pixels, stretch_stays, stretches_stay};

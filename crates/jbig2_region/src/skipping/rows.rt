@@ -6,11 +6,10 @@ ghost use Rattle.jbig2_base.specs.Counts.{KeepsLanes};
 ghost use Rattle.jbig2_region.specs.Steps.{CountsSkipping, skipping_loads, skipping_words};
 ghost use Rattle.jbig2_region.specs.inner.RegionViews.{skip_of};
 ghost use Rattle.jbig2_region.specs.Generic.{skipping_coding};
-ghost use Rattle.jbig2_region.specs.inner.DecodedPixels.{TakesPixel};
+ghost use Rattle.jbig2_region.specs.inner.DecodedPixels.{DecodesPixels, TakesPixel};
 ghost use Rattle.jbig2_region.specs.inner.RegionStates.{DecodesRegion, IsReady, counted_decoder, counted_region, region_state};
 ghost use Rattle.jbig2_region.specs.inner.Neighbours.{IsLeft, IsNear, neighbour_count, nominal_pixels};
 ghost use Rattle.jbig2_region.specs.inner.Masks.{IsMask, plain_context};
-ghost use Rattle.jbig2_region.specs.inner.Stretches.{DecodesPixels};
 
 use crate::generic_kernel::windows::{Place, Windows, stretch_bits, windows_at};
 use crate::template::neighbours::{Neighbours, join};

@@ -6,8 +6,24 @@ ghost use Rattle.jbig2_region.specs.inner.Neighbours.{IsLayout, is_nominal_layou
 ghost use Rattle.jbig2_region.specs.Templates.{adaptive, adaptive_pixel_count, context_bits, is_nominal, lies_at, template_pixels};
 ghost use Rattle.jbig2_region.specs.inner.PixelArrays.{four_pixels};
 
-use crate::template::neighbours::{Adaptives, Layout, Neighbours, Stretch};
+use crate::template::neighbours::{Neighbours, Stretch};
 use crate::template::{AdaptiveTemplatePixel, Template};
+
+/// The adaptive pixels, by the neighbours between which their bits come: after those on the left,
+/// after those above, and last.
+#[derive(Clone, Copy, Drop)]
+pub struct Adaptives<'a> {
+    pub first: &'a [AdaptiveTemplatePixel],
+    pub middle: &'a [AdaptiveTemplatePixel],
+    pub last: &'a [AdaptiveTemplatePixel],
+}
+
+/// A template: neighbours, and adaptive pixels. If these are nominal, they are neighbours too.
+#[derive(Clone, Copy, Drop)]
+pub struct Layout<'a> {
+    pub neighbours: Neighbours,
+    pub adaptive: Option<Adaptives<'a>>,
+}
 
 #[inline(always)]
 fn neighbours_of(

@@ -1,8 +1,6 @@
 //! The pixels of a template that lie side by side, and their parts of a context.
 ghost use Rattle.std.specs.Prelude.{◌≡◌, ℕ, ◌+◌, ◌-◌, ◌*◌, ◌/◌, ◌%◌, ◌^◌, ◌<◌, ◌≤◌};
 
-use crate::template::AdaptiveTemplatePixel;
-
 /// `count` pixels of a row above. The rightmost is `reach` columns right of the pixel that is
 /// decoded.
 #[derive(Clone, Copy, PartialEq, Eq)]
@@ -18,22 +16,6 @@ pub struct Neighbours {
     pub left: u32,
     pub above: Stretch,
     pub top: Stretch,
-}
-
-/// The adaptive pixels, by the neighbours between which their bits come: after those on the left,
-/// after those above, and last.
-#[derive(Clone, Copy, Drop)]
-pub struct Adaptives<'a> {
-    pub first: &'a [AdaptiveTemplatePixel],
-    pub middle: &'a [AdaptiveTemplatePixel],
-    pub last: &'a [AdaptiveTemplatePixel],
-}
-
-/// A template: neighbours, and adaptive pixels. If these are nominal, they are neighbours too.
-#[derive(Clone, Copy, Drop)]
-pub struct Layout<'a> {
-    pub neighbours: Neighbours,
-    pub adaptive: Option<Adaptives<'a>>,
 }
 
 /// The number with `low` in its lowest `count` bits and `high` above them.

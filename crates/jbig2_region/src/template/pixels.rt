@@ -5,8 +5,8 @@ ghost use Rattle.jbig2_region.specs.Templates.{template_pixels};
 ghost use Rattle.jbig2_region.specs.inner.PixelArrays.{four_pixels};
 ghost use Rattle.jbig2_region.specs.inner.Neighbours.{IsMixed, mixed_pixels, side_by_side};
 
-use crate::template::layouts::{adaptives, fixed_neighbours};
-use crate::template::neighbours::{Adaptives, Neighbours};
+use crate::template::layouts::{Adaptives, adaptives, fixed_neighbours};
+use crate::template::neighbours::Neighbours;
 use crate::template::{AdaptiveTemplatePixel, Template, pixel};
 use std::marker::Model;
 

@@ -16,7 +16,7 @@ use Rattle.jbig2_text.specs.declared.prefixed.PrefixedReadings.{PrefixedReadings
 use Rattle.jbig2_text.specs.declared.symbol_list.SymbolList.{SymbolList}
 use Rattle.jbig2_text.specs.declared.symbols.InstanceSymbol.{InstanceSymbol}
 use Rattle.jbig2_text.specs.declared.symbols.InstanceSymbol.TheVariants.{Shared, Refined}
-use Rattle.jbig2_text.specs.declared.symbols.TextParams.{TextParams}
+use Rattle.jbig2_text.specs.declared.params.TextParams.{TextParams}
 use Rattle.jbig2_text.specs.declared.tables.TextRegionHuffmanTables.{TextRegionHuffmanTables}
 use Rattle.jbig2_text.specs.TextHeader.{NumberCoding, ArithmeticCoding, HuffmanCoding, TextHeader}
 use Rattle.jbig2_text.specs.declared.header.TextRegionCoding.TheVariants as codings

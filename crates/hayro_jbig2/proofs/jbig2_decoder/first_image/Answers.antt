@@ -1,4 +1,4 @@
-use Rattle.jbig2_page.specs.Image.{first_page}
+use Rattle.jbig2_page.specs.FirstPage.{first_page}
 use Rattle.hayro_jbig2.proofs.jbig2_decoder.first_image.Goals as goal
 
 pub returns-clause-value : goal.returns-clause-value

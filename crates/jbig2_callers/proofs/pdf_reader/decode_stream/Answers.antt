@@ -6,9 +6,9 @@ use Rattle.jbig2_base.specs.Grid.{Grid}
 use Rattle.jbig2_base.specs.declared.error.DecodeError.{DecodeError}
 use Rattle.jbig2_base.specs.declared.error.DecodeError.TheVariants.{OutOfMemory}
 use Rattle.jbig2_framing.specs.declared.reading.Reading.TheVariants.{Lenient}
-use Rattle.jbig2_page.specs.Names.{globals_at, KeptGlobals}
 use Rattle.jbig2_page.specs.Page.{page_from}
 use Rattle.jbig2_page.specs.Calls.{Conduct, Decodes}
+use Rattle.jbig2_page.specs.Globals.{globals_at, KeptGlobals}
 use Rattle.jbig2_callers.specs.Callers.{grid_of_stream}
 use Rattle.jbig2_callers.proofs.pdf_reader.decode_stream.Goals as goal
 

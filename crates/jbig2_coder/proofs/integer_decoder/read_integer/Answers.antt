@@ -1,7 +1,7 @@
 use Rattle.std.proofs.Common.{ap, subst, ◌∙◌}
 use Rattle.std.specs.Prelude.{◌==◌}
 use Rattle.jbig2_coder.specs.Integers.{Reading, value_of_bits, read, prev_of}
-use Rattle.jbig2_coder.specs.inner.Prefixes.{prefix}
+use Rattle.jbig2_coder.specs.inner.IntegerPrefixes.{prefix}
 use Rattle.jbig2_coder.specs.inner.IntegerStates.{HasRead}
 use Rattle.jbig2_coder.proofs.Readings.{start_of, HasRead-start, integer-reading, integer-value, bit_number-one}
 use Rattle.jbig2_coder.proofs.integer_decoder.read_integer.Goals as goal

@@ -1,7 +1,7 @@
 use Rattle.std.proofs.Common.{◌≡◌, ◌-◌, ◌<◌}
 use Rattle.jbig2_base.specs.Counts.{Counts}
 use Rattle.jbig2_coder.specs.Integers.{Reading, prev_of}
-use Rattle.jbig2_coder.specs.inner.Prefixes.{prefix}
+use Rattle.jbig2_coder.specs.inner.IntegerPrefixes.{prefix}
 use Rattle.jbig2_coder.specs.inner.IntegerStates.{HasRead}
 use Rattle.jbig2_coder.proofs.integer_decoder.read_prefix.Given as goal
 

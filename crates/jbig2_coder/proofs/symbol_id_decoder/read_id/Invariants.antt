@@ -1,6 +1,6 @@
 use Rattle.std.proofs.Common.{◌≡◌, ◌+◌, ◌^◌, ◌<◌}
 use Rattle.jbig2_coder.specs.Integers.{read_more}
-use Rattle.jbig2_coder.specs.inner.Prefixes.{place_of}
+use Rattle.jbig2_coder.specs.inner.IntegerPrefixes.{place_of}
 use Rattle.jbig2_coder.specs.inner.IntegerStates.{HasRead}
 use Rattle.jbig2_coder.proofs.Readings.{start_of}
 use Rattle.jbig2_coder.proofs.symbol_id_decoder.read_id.Given as goal

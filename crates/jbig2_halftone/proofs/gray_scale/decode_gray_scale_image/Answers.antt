@@ -3,7 +3,7 @@ use Rattle.std.proofs.Math.Seq.{take-append_seam}
 use Rattle.jbig2_base.specs.declared.error.DecodeError.{DecodeError}
 use Rattle.jbig2_base.proofs.CauseSteps.{err-gives}
 use Rattle.jbig2_halftone.specs.GrayScale.{GrayScale, gray_scale_image, image_is_too_large}
-use Rattle.jbig2_halftone.specs.inner.HalftoneViews.{gray_view}
+use Rattle.jbig2_halftone.specs.inner.GrayScaleViews.{gray_view}
 use Rattle.jbig2_halftone.proofs.CausesOfRegions.{gray_scale_cause}
 use Rattle.jbig2_halftone.proofs.GrayCounts.{image-lanes, stops-none}
 use Rattle.jbig2_halftone.proofs.DrawSteps.{on-any}

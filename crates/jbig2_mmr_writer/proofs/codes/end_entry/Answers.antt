@@ -1,5 +1,5 @@
 use Rattle.std.proofs.Common.{Bool, true, false, ap, sym, ◌∙◌}
-use Rattle.jbig2_inverses.specs.RowWriter.{run_word}
+use Rattle.jbig2_inverses.specs.MmrRowWriter.{run_word}
 use Rattle.jbig2_mmr_writer.proofs.CodeTables.{black_ends, end-word, entry-fits, white_ends}
 use Rattle.jbig2_mmr_writer.proofs.codes.end_entry.Goals as goal
 

@@ -1,5 +1,5 @@
 use Rattle.std.proofs.Common.{Bool, true, false, ◌*◌, ◌-◌, ap, sym, ◌∙◌}
-use Rattle.jbig2_inverses.specs.RowWriter.{run_word}
+use Rattle.jbig2_inverses.specs.MmrRowWriter.{run_word}
 use Rattle.jbig2_mmr_writer.proofs.CodeTables.{black_parts, entry-fits, part-word, white_parts}
 use Rattle.jbig2_mmr_writer.proofs.codes.part_entry.Goals as goal
 

@@ -1,6 +1,6 @@
 use Rattle.std.proofs.Common.{ℕ, ◌++◌, List, ap, ◌∙◌, arith}
 use Rattle.std.proofs.lemmas.Result.{on_ok_weaker}
-use Rattle.jbig2_inverses.specs.RowWriter.{run_word}
+use Rattle.jbig2_inverses.specs.MmrRowWriter.{run_word}
 use Rattle.jbig2_mmr_writer.proofs.RunLemmas.{repeated-next, repeated-none, run-long, run-short}
 use Rattle.jbig2_mmr_writer.proofs.codes.push_run.Goals as goal
 

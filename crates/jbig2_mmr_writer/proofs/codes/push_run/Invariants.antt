@@ -1,5 +1,5 @@
 use Rattle.std.proofs.Common.{◌≡◌, ◌++◌}
-use Rattle.jbig2_inverses.specs.RowWriter.{repeated, run_word}
+use Rattle.jbig2_inverses.specs.MmrRowWriter.{repeated, run_word}
 use Rattle.jbig2_mmr_writer.proofs.codes.push_run.Given as goal
 
 abbrev pub invariant-loop : goal.invariant-loop

@@ -1,6 +1,6 @@
 use Rattle.std.proofs.Common.{◌-◌, ◌∙◌, ap, sym, leb, arith}
 use Rattle.std.proofs.lemmas.Bool.{cond-true, cond-false, le-leb, lt-leb}
-use Rattle.jbig2_inverses.specs.RowWriter.{mode_word}
+use Rattle.jbig2_inverses.specs.MmrRowWriter.{mode_word}
 use Rattle.jbig2_mmr.specs.T6Codes.{vertical_left, vertical_right}
 use Rattle.jbig2_mmr.specs.declared.mmr.codes.Mode.{Mode}
 use Rattle.jbig2_mmr_writer.proofs.CodeTables.{left-mode, right-mode}

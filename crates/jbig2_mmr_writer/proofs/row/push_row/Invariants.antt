@@ -1,6 +1,6 @@
 use Rattle.std.proofs.Common.{◌≡◌, ◌+◌, ◌-◌, ◌*◌, ◌≤◌, ◌++◌}
 use Rattle.jbig2_mmr.specs.inner.T6Reading.{row_above, pixels_of_row}
-use Rattle.jbig2_inverses.specs.RowWriter.{bits_from, row_bits}
+use Rattle.jbig2_inverses.specs.MmrRowWriter.{bits_from, row_bits}
 use Rattle.jbig2_mmr_writer.specs.inner.Places.{IsPlace, head_of}
 use Rattle.jbig2_mmr_writer.proofs.row.push_row.Given as goal
 

@@ -2,9 +2,9 @@ use Rattle.std.proofs.Common.{◌≡◌, length, Result, Ok, ap, sym, ◌∙◌,
 use Rattle.std.proofs.lemmas.List.{length-map}
 use Rattle.jbig2_framing.specs.inner.SegmentViews.{segment_views}
 use Rattle.jbig2_base.specs.declared.error.DecodeError.{DecodeError}
-use Rattle.jbig2_page.specs.Names.{KeptGlobals}
 use Rattle.jbig2_page.specs.SharedWork.{shared_count}
 use Rattle.jbig2_page.proofs.Books.{counts_none, counts_some, shares_some}
+use Rattle.jbig2_page.specs.Globals.{KeptGlobals}
 use Rattle.jbig2_page.proofs.file.kept_globals.Goals as goal
 
 pub returns-in-Ok-clause-value : goal.returns-in-Ok-clause-value

@@ -4,9 +4,9 @@ use Rattle.jbig2_base.specs.Counts.{Counts}
 use Rattle.jbig2_base.specs.Grid.{Grid}
 use Rattle.jbig2_base.specs.Writes.{with_pixel}
 use Rattle.jbig2_coder.specs.Coder.{Coder, fresh}
-use Rattle.jbig2_region.specs.inner.Stretches.{rest_of}
 use Rattle.jbig2_region.proofs.DecodedPixelLemmas.{pixel-known, pixel-decided, pixel-counts}
 use Rattle.jbig2_region.proofs.RasterLemmas.{digit-colour}
+use Rattle.jbig2_region.specs.inner.DecodedPixels.{rest_of}
 use Rattle.jbig2_region.proofs.raster.decode_pixel.Goals as goal
 
 pub returns-in-Some-clause-decoded : goal.returns-in-Some-clause-decoded

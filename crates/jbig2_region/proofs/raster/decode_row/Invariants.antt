@@ -1,7 +1,7 @@
 use Rattle.std.proofs.Common.{◌≡◌, ◌≤◌, ◌+◌, ◌*◌}
-use Rattle.jbig2_region.specs.inner.Stretches.{DecodesPixels}
 use Rattle.jbig2_region.proofs.raster.decode_row.Given as goal
 use Rattle.jbig2_region.specs.inner.RegionStates.{counted_region}
+use Rattle.jbig2_region.specs.inner.DecodedPixels.{DecodesPixels}
 
 abbrev pub invariant-loop-x : goal.invariant-loop-x
 invariant-loop-x g l = record {

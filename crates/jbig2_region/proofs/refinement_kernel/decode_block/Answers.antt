@@ -2,8 +2,7 @@ use Rattle.std.proofs.Common.{arith, ◌≡◌, ℕ, ◌+◌, ◌-◌, ◌*◌, 
 use Rattle.jbig2_base.specs.Counts.{Counts}
 use Rattle.jbig2_base.specs.Grid.{Grid, pixel_at}
 use Rattle.jbig2_base.specs.Bits.{bit}
-use Rattle.jbig2_region.specs.inner.Stretches.{rest_of}
-use Rattle.jbig2_region.specs.inner.DecodedPixels.{CountsPart, TakesPixel}
+use Rattle.jbig2_region.specs.inner.DecodedPixels.{CountsPart, rest_of, TakesPixel}
 use Rattle.jbig2_region.specs.inner.RefinementBlocks.{Block}
 use Rattle.jbig2_region.specs.inner.RefinementViews.{reference_view}
 use Rattle.jbig2_region.specs.inner.RefinementWindows.{context_made, known_of, nine_of, three_of, windowed_coding}

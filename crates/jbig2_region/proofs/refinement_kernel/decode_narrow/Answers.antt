@@ -5,13 +5,13 @@ use Rattle.jbig2_base.specs.Grid.{Grid, pixel_at}
 use Rattle.jbig2_region.specs.inner.RegionStates.{HasDecoded, BeginsRow, counted_region, region_state}
 use Rattle.jbig2_region.specs.inner.RefinementWindows.{windowed_coding}
 use Rattle.jbig2_region.specs.Raster.{Region, no_pixels, row_decisions}
-use Rattle.jbig2_region.specs.inner.Stretches.{DecodesPixels, rest_of}
 use Rattle.jbig2_region.specs.Steps.{window_loads}
 use Rattle.jbig2_region.proofs.DecisionLemmas.{Decided, decided-region}
 use Rattle.jbig2_region.proofs.PlaceLemmas.{region-whole}
 use Rattle.jbig2_region.proofs.RegionLemmas.{tests-next}
 use Rattle.jbig2_region.proofs.StoreLemmas.{left-none}
 use Rattle.jbig2_region.proofs.StretchLemmas.{rows-next, rows-none, rows-until}
+use Rattle.jbig2_region.specs.inner.DecodedPixels.{DecodesPixels, rest_of}
 use Rattle.jbig2_region.proofs.refinement_kernel.decode_narrow.Goals as goal
 
 pub loop-y-init : goal.loop-y-init

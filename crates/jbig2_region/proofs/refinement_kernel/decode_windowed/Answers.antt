@@ -1,7 +1,6 @@
 use Rattle.std.proofs.Common.{arith, refl, ◌≡◌, ◌≤◌, ◌+◌, ◌∙◌, ℕ, Option, sym, ap, subst}
 use Rattle.jbig2_base.specs.Counts.{Counts}
 use Rattle.jbig2_base.specs.Grid.{Grid}
-use Rattle.jbig2_region.specs.inner.Stretches.{rest_of}
 use Rattle.jbig2_region.specs.inner.RegionStates.{HasDecoded, BeginsRow, region_state}
 use Rattle.jbig2_region.specs.inner.RefinementWindows.{windowed_coding}
 use Rattle.jbig2_region.specs.Raster.{Region, no_pixels, row_decisions}
@@ -10,6 +9,7 @@ use Rattle.jbig2_region.proofs.DecisionLemmas.{decided-empty, decided-region}
 use Rattle.jbig2_region.proofs.PlaceLemmas.{region-empty, region-whole}
 use Rattle.jbig2_region.proofs.RegionLemmas.{tests-next}
 use Rattle.jbig2_region.proofs.StretchLemmas.{rows-none, rows-next}
+use Rattle.jbig2_region.specs.inner.DecodedPixels.{rest_of}
 use Rattle.jbig2_region.proofs.refinement_kernel.decode_windowed.Goals as goal
 
 pub returns-then-width-eq0-clause-region : goal.returns-then-width-eq0-clause-region

@@ -1,6 +1,7 @@
 use Rattle.std.proofs.Common.{◌≡◌, ◌+◌, ◌-◌, ◌*◌, ◌≤◌, length}
 use Rattle.jbig2_symbol.specs.HeightClasses.{symbols_from}
-use Rattle.jbig2_symbol.specs.inner.SymbolViews.{concat, input_view}
+use Rattle.jbig2_symbol.specs.inner.SymbolViews.{input_view}
+use Rattle.jbig2_symbol.specs.inner.FunctionResults.{concat}
 use Rattle.jbig2_steps.specs.Work.{budget}
 use Rattle.jbig2_text.specs.Paying.{number_steps}
 use Rattle.jbig2_symbol.proofs.classes.read_symbols.Given as goal

@@ -1,9 +1,9 @@
 use Rattle.std.proofs.Common.{◌+◌, List, [], ◌∷◌, drop, get_or, length, length-append, refl, sym, ap, ◌∙◌, arith}
 use Rattle.jbig2_base.specs.Grid.{Grid, part_of}
 use Rattle.jbig2_symbol.specs.SymbolBitmaps.{symbol_cut, symbols_cut}
-use Rattle.jbig2_symbol.specs.inner.SymbolViews.{symbols_after}
 use Rattle.jbig2_symbol.proofs.PayingLemmas.{copy-paid, unmade-paid}
 use Rattle.jbig2_symbol.proofs.CutLemmas.{cut-all, cut-fault, cut-next, sum-next}
+use Rattle.jbig2_symbol.specs.inner.FunctionResults.{symbols_after}
 use Rattle.jbig2_symbol.proofs.collective.cut_symbols.Goals as goal
 
 pub returns-clause-value : goal.returns-clause-value

@@ -1,7 +1,7 @@
 use Rattle.std.proofs.Common.{◌≡◌, ◌+◌, ◌≤◌, drop, length}
 use Rattle.std.specs.Prelude.{sum}
 use Rattle.jbig2_symbol.specs.SymbolBitmaps.{symbols_cut}
-use Rattle.jbig2_symbol.specs.inner.SymbolViews.{symbols_after}
+use Rattle.jbig2_symbol.specs.inner.FunctionResults.{symbols_after}
 use Rattle.jbig2_steps.specs.Work.{budget}
 use Rattle.jbig2_symbol.proofs.collective.cut_symbols.Given as goal
 

@@ -9,9 +9,10 @@ use Rattle.hayro_jbig2.proofs.file.File.page.Goals as goal
 use Rattle.jbig2_page.specs.Causes.{IsFromInput}
 use Rattle.jbig2_framing.specs.declared.cut_off.CutOff.{CutOff}
 use Rattle.jbig2_page.specs.Files.{ReadFile, PageInFile, cut_off_of, page_in, page_of}
-use Rattle.jbig2_page.specs.Names.{Names, KeptGlobals, names_of}
+use Rattle.jbig2_page.specs.Names.{Names}
 use Rattle.jbig2_page.specs.Page.{ReadPage}
 use Rattle.jbig2_page.specs.inner.PageViews.{kept_names}
+use Rattle.jbig2_page.specs.Globals.{KeptGlobals, names_of}
 
 page-at : (book : ReadFile) (pages : List PageInFile) (i : ℕ) (page : PageInFile) (read : ReadPage) → pages ≡ book.pages → i < length pages → page ≡ get_or pages i page → read ≡ page_in book page → Some read ≡ page_of book i
 page-at book pages i page read are inside is made =

@@ -9,8 +9,8 @@ use Rattle.jbig2_framing.specs.Sequential.{by_number, sequential}
 use Rattle.jbig2_base.specs.declared.error.DecodeError.{DecodeError}
 use Rattle.jbig2_base.specs.declared.error.DecodeError.TheVariants.{OutOfMemory}
 use Rattle.jbig2_framing.specs.declared.reading.Reading.TheVariants.{Lenient, Salvage}
-use Rattle.jbig2_page.specs.Names.{KeptGlobals, globals_at, shared_from, nothing_shared}
 use Rattle.jbig2_page.proofs.Salvaging.{fine-named, fine-sequential}
+use Rattle.jbig2_page.specs.Globals.{globals_at, KeptGlobals, nothing_shared, shared_from}
 use Rattle.hayro_jbig2.proofs.globals.Globals.salvaged.Goals as goal
 
 -- where nothing is refused, memory alone is wanting

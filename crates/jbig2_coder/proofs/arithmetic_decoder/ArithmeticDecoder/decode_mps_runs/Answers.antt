@@ -1,7 +1,7 @@
 use Rattle.std.proofs.Common.{◌≡◌, ◌-◌, ◌*◌, ◌/◌, refl, sym, ap, arith, ℕ}
 use Rattle.jbig2_coder.proofs.Runs.{groups-yes, groups-no, groups-fit, groups-fall, groups-some}
 use Rattle.jbig2_coder.specs.Coder.{Coder, Context}
-use Rattle.jbig2_coder.specs.Table.{qe_row}
+use Rattle.jbig2_coder.specs.QeTable.{qe_row}
 use Rattle.jbig2_coder.specs.inner.Ahead.{seen_of, seen_registers}
 use Rattle.jbig2_coder.specs.inner.States.{context_in_state}
 use Rattle.jbig2_coder.proofs.arithmetic_decoder.ArithmeticDecoder.decode_mps_runs.Goals as goal

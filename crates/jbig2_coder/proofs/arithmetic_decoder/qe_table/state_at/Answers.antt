@@ -1,4 +1,4 @@
-use Rattle.jbig2_coder.specs.Table.{rows}
+use Rattle.jbig2_coder.specs.QeTable.{rows}
 use Rattle.jbig2_coder.proofs.States.{states, both_of, state-qe, state-likely, state-unlikely, state-some, state-half, state-likely_below, state-unlikely_below}
 use Rattle.jbig2_coder.proofs.arithmetic_decoder.qe_table.state_at.Goals as goal
 

@@ -5,7 +5,7 @@ use Rattle.jbig2_base.specs.Grid.{Grid, blank, blank_or_overflow}
 use Rattle.jbig2_base.specs.declared.error.DecodeError.{DecodeError}
 use Rattle.jbig2_base.specs.declared.error.DecodeError.TheVariants.{OutOfMemory}
 use Rattle.jbig2_halftone.specs.GrayScale.{GrayScale, image_is_too_large}
-use Rattle.jbig2_halftone.specs.inner.HalftoneViews.{gray_view}
+use Rattle.jbig2_halftone.specs.inner.GrayScaleViews.{gray_view}
 use Rattle.jbig2_halftone.specs.inner.FunctionResults.{CountsCoded, coded_planes}
 use Rattle.jbig2_halftone.proofs.GrayCounts.{cleared-all, cleared-begin, cleared-more, cleared-most, cleared-some, coded-some, counts-begin, counts-made, counts-more, none-left, none-more, none-start}
 use Rattle.jbig2_halftone.proofs.DrawSteps.{on-any}

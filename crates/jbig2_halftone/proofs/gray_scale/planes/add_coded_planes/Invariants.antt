@@ -1,7 +1,7 @@
 use Rattle.std.proofs.Common.{◌≡◌, ◌+◌, ◌*◌}
 use Rattle.jbig2_base.specs.Counts.{words_made}
 use Rattle.jbig2_halftone.specs.GrayScale.{gray_values}
-use Rattle.jbig2_halftone.specs.inner.HalftoneViews.{gray_view}
+use Rattle.jbig2_halftone.specs.inner.GrayScaleViews.{gray_view}
 use Rattle.jbig2_halftone.specs.inner.FunctionResults.{CountsCoded, coded_planes}
 use Rattle.jbig2_halftone.proofs.GrayCounts.{NoneYet}
 use Rattle.jbig2_halftone.proofs.PlaneLemmas.{AfterPlanes}

@@ -3,7 +3,7 @@ use Rattle.jbig2_base.specs.Counts.{Counts, words_made}
 use Rattle.jbig2_base.specs.declared.error.DecodeError.TheVariants.{OutOfMemory}
 use Rattle.std.specs.Prelude.{Err}
 use Rattle.jbig2_halftone.specs.GrayScale.{GrayScale, mmr_plane}
-use Rattle.jbig2_halftone.specs.inner.HalftoneViews.{gray_view}
+use Rattle.jbig2_halftone.specs.inner.GrayScaleViews.{gray_view}
 use Rattle.jbig2_halftone.proofs.GrayCounts.{cleared-all, cleared-begin, cleared-more, cleared-most, cleared-some, mmr-all-counted, mmr-begin, mmr-more, mmr-refused-after, mmr-stopped, none-left, none-more, none-start, taken-more, taken-none}
 use Rattle.jbig2_halftone.proofs.DrawSteps.{on-any}
 use Rattle.jbig2_halftone.proofs.PlaneLemmas.{adds-all, adds-fault, adds-next, adds-none, image-sides, plane-sides}

@@ -2,7 +2,7 @@ use Rattle.std.proofs.Common.{◌≡◌, length, ◌+◌, ◌*◌}
 use Rattle.jbig2_base.specs.Counts.{words_made}
 use Rattle.jbig2_halftone.specs.Steps.{TakesLanes, taking_loads, words_of_plane}
 use Rattle.jbig2_halftone.specs.inner.FunctionResults.{MovesByMmr}
-use Rattle.jbig2_halftone.specs.inner.HalftoneViews.{gray_view}
+use Rattle.jbig2_halftone.specs.inner.GrayScaleViews.{gray_view}
 use Rattle.jbig2_halftone.proofs.GrayCounts.{NoneYet}
 use Rattle.jbig2_halftone.proofs.PlaneLemmas.{AddsMmr}
 use Rattle.jbig2_halftone.proofs.gray_scale.planes.add_mmr_planes.Given as goal

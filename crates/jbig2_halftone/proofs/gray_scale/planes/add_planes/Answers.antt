@@ -1,4 +1,4 @@
-use Rattle.jbig2_halftone.specs.inner.HalftoneViews.{gray_view}
+use Rattle.jbig2_halftone.specs.inner.GrayScaleViews.{gray_view}
 use Rattle.jbig2_halftone.proofs.DrawSteps.{on-any, on-err, on-ok}
 use Rattle.jbig2_halftone.proofs.GrayCounts.{coded-read, coded-stops, mmr-image, mmr-stops, stops-none}
 use Rattle.jbig2_halftone.proofs.gray_scale.planes.add_planes.Goals as goal

@@ -1,6 +1,6 @@
 use Rattle.std.proofs.Common.{not, ap, refl, ◌∙◌}
 use Rattle.jbig2_region.specs.inner.PixelArrays.{four_pixels}
-use Rattle.jbig2_halftone.specs.inner.HalftoneViews.{gray_view}
+use Rattle.jbig2_halftone.specs.inner.GrayScaleViews.{gray_view}
 use Rattle.jbig2_halftone.proofs.GrayCounts.{one-masked, one-plain, plain-counts}
 use Rattle.jbig2_halftone.proofs.PlaneLemmas.{unskipped, no-mask}
 use Rattle.jbig2_halftone.proofs.gray_scale.planes.decode_plane.Goals as goal

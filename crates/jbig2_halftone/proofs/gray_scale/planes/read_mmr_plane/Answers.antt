@@ -2,7 +2,7 @@ use Rattle.std.proofs.Common.{◌≤◌, false, inr, length, rules}
 use Rattle.jbig2_base.specs.Counts.{words_made}
 use Rattle.jbig2_halftone.specs.Steps.{words_of_plane}
 use Rattle.jbig2_halftone.specs.GrayScale.{GrayScale}
-use Rattle.jbig2_halftone.specs.inner.HalftoneViews.{gray_view}
+use Rattle.jbig2_halftone.specs.inner.GrayScaleViews.{gray_view}
 use Rattle.jbig2_halftone.proofs.GrayCounts.{mmr-one, mmr-refused, moves-before}
 use Rattle.jbig2_halftone.proofs.PatternLemmas.{blank-made}
 use Rattle.jbig2_halftone.proofs.PlaneLemmas.{mmr-made, drop-whole, plane-made, plane-fault}

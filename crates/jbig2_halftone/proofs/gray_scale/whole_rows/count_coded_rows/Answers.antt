@@ -4,7 +4,7 @@ use Rattle.jbig2_region.specs.Raster.{no_pixels}
 use Rattle.jbig2_region.specs.inner.PixelArrays.{four_pixels}
 use Rattle.jbig2_halftone.specs.GrayScale.{GrayScale}
 use Rattle.jbig2_halftone.specs.inner.FunctionResults.{whole_coded_rows}
-use Rattle.jbig2_halftone.specs.inner.HalftoneViews.{gray_view}
+use Rattle.jbig2_halftone.specs.inner.GrayScaleViews.{gray_view}
 use Rattle.jbig2_region.proofs.GenericPrices.{whole-rows-paid}
 use Rattle.jbig2_halftone.proofs.PatternLemmas.{blank-made}
 use Rattle.jbig2_halftone.proofs.PlaneLemmas.{after-none, coded-holds, coded-next}

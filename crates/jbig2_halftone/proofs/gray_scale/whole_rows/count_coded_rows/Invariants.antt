@@ -1,6 +1,6 @@
 use Rattle.std.proofs.Common.{◌*◌}
 use Rattle.jbig2_steps.specs.Work.{CountsWithin, price_of_bitmap}
-use Rattle.jbig2_halftone.specs.inner.HalftoneViews.{gray_view}
+use Rattle.jbig2_halftone.specs.inner.GrayScaleViews.{gray_view}
 use Rattle.jbig2_halftone.proofs.PlaneLemmas.{AfterPlanes}
 use Rattle.jbig2_halftone.proofs.gray_scale.whole_rows.count_coded_rows.Given as goal
 

@@ -2,7 +2,7 @@ use Rattle.std.proofs.Common.{◌≡◌, ◌-◌, ℕ, false, length, Ok, ap, sy
 use Rattle.jbig2_base.specs.Counts.{words_made}
 use Rattle.jbig2_halftone.specs.GrayScale.{GrayScale}
 use Rattle.jbig2_halftone.specs.inner.FunctionResults.{mmr_rows_left}
-use Rattle.jbig2_halftone.specs.inner.HalftoneViews.{gray_view}
+use Rattle.jbig2_halftone.specs.inner.GrayScaleViews.{gray_view}
 use Rattle.jbig2_halftone.proofs.GrayCounts.{cleared-begin, cleared-more, cleared-most, cleared-some, mmr-start, mmr-then, taken-kept, taken-none}
 use Rattle.jbig2_halftone.proofs.PatternLemmas.{blank-made}
 use Rattle.jbig2_halftone.proofs.WholeCellLemmas.{last-rows, left-next, left-none, plane-memory}

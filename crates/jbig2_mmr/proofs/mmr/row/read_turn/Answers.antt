@@ -5,9 +5,8 @@ use Rattle.std.proofs.lemmas.Int.{to_z-of_z}
 use Rattle.jbig2_mmr.specs.declared.mmr.codes.Mode.{Mode}
 use Rattle.jbig2_mmr.specs.declared.mmr.row.Turn.{Turn}
 use Rattle.jbig2_mmr.specs.T6.{Head, Step, after_runs, after_vertical, after_mode, next_step}
-use Rattle.jbig2_mmr.specs.inner.T6Reading.{pixels_of_row}
+use Rattle.jbig2_mmr.specs.inner.T6Reading.{IsNearMode, IsWithinThree, pixels_of_row}
 use Rattle.jbig2_mmr.specs.inner.T6Calls.{head_of, ReadStep}
-use Rattle.jbig2_mmr.specs.inner.T6Steps.{IsWithinThree, IsNearMode}
 use Rattle.jbig2_mmr.proofs.T6Rows.{step-by, step-none}
 use Rattle.jbig2_mmr.proofs.T6Steps.{moves-none}
 use Rattle.jbig2_mmr.proofs.mmr.row.read_turn.Goals as goal

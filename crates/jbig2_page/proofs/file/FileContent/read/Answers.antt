@@ -14,7 +14,6 @@ use Rattle.jbig2_framing.specs.declared.file_header.FileHeader.{FileHeader}
 use Rattle.jbig2_framing.specs.declared.reading.Reading.{Reading}
 use Rattle.jbig2_page.specs.Causes.{IsFromInput}
 use Rattle.jbig2_page.specs.Files.{PageInFile, association_check, book_at, by_pages, pages_in_file, left_out_of, miscounts, of_page, segments_at, shared_by}
-use Rattle.jbig2_page.specs.Names.{KeptGlobals}
 use Rattle.jbig2_page.specs.inner.ByPages.{by_page_view}
 use Rattle.jbig2_base.proofs.CauseSteps.{err-gives}
 use Rattle.jbig2_page.proofs.FromInput.{from_input-associated, from_input-each, from_input-segments_at}
@@ -22,6 +21,7 @@ use Rattle.jbig2_page.proofs.DrawingFromInput.{returned_error, shared_from_input
 use Rattle.jbig2_page.proofs.Causes.{file_cause}
 use Rattle.jbig2_page.proofs.file.FileContent.read.Goals as goal
 use Rattle.jbig2_page.proofs.file.FileContent.read.Goals.{else-strict-via-then-strict+else-miscounts, else-strict-via-else-strict}
+use Rattle.jbig2_page.specs.Globals.{KeptGlobals}
 
 -- a file of which each step was taken
 book-made : (reading : Reading) (bytes : List ℕ) (file : FileHeader × List SegmentView) (parts : List SegmentView × List (List SegmentView)) (pages : List PageInFile) (globals : Result KeptGlobals DecodeError) (left_out : List DecodeError) (cut_off : Option CutOff)

@@ -9,7 +9,9 @@ use Rattle.jbig2_base.specs.declared.error.DecodeError.{DecodeError}
 use Rattle.jbig2_base.specs.declared.error.DecodeError.TheVariants.{OutOfMemory}
 use Rattle.jbig2_framing.specs.declared.reading.Reading.{Reading}
 use Rattle.jbig2_framing.specs.declared.segment.Segment.{Segment}
-use Rattle.jbig2_page.specs.Names.{shared_from, Names, KeptGlobals, fault_of, kept_by, no_names, or_shared_without, with_passed}
+use Rattle.jbig2_page.specs.Names.{Names, kept_by, no_names}
+use Rattle.jbig2_page.specs.PassedOver.{fault_of, with_passed}
+use Rattle.jbig2_page.specs.Globals.{KeptGlobals, or_shared_without, shared_from}
 use Rattle.jbig2_steps.proofs.WorkLemmas.{paid-limit}
 use Rattle.jbig2_page.proofs.globals.GlobalsContent.of_segments.Goals as goal
 

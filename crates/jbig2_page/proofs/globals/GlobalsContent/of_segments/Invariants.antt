@@ -2,7 +2,7 @@ use Rattle.std.proofs.Common.{◌≡◌, ◌+◌, ◌*◌, ◌≤◌, drop}
 use Rattle.jbig2_framing.specs.inner.SegmentViews.{segment_views}
 use Rattle.jbig2_steps.specs.Work.{budget}
 use Rattle.jbig2_steps.specs.declared.prices.TheConstants as prices
-use Rattle.jbig2_page.specs.Names.{shared_from, nothing_shared}
+use Rattle.jbig2_page.specs.Globals.{nothing_shared, shared_from}
 use Rattle.jbig2_page.proofs.globals.GlobalsContent.of_segments.Given as goal
 
 abbrev pub invariant-loop-segment : goal.invariant-loop-segment

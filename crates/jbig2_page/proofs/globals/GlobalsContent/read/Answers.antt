@@ -1,10 +1,10 @@
 use Rattle.std.proofs.Common.{Ok}
 use Rattle.std.proofs.lemmas.Result.{err_from_is_err_and}
 use Rattle.jbig2_framing.specs.inner.SegmentViews.{segment_views}
-use Rattle.jbig2_page.specs.Names.{nothing_shared}
 use Rattle.jbig2_framing.proofs.FromInput.{from_input-sequential}
 use Rattle.jbig2_page.proofs.FromInput.{from_input-named}
 use Rattle.jbig2_page.proofs.DrawingFromInput.{returned, returned_error}
+use Rattle.jbig2_page.specs.Globals.{nothing_shared}
 use Rattle.jbig2_page.proofs.globals.GlobalsContent.read.Goals as goal
 
 pub returns-clause-errors : goal.returns-clause-errors

@@ -2,7 +2,7 @@ use Rattle.std.proofs.Common.{arith, min, get_or, length, ◌≡◌, ◌-◌, �
 use Rattle.std.proofs.lemmas.Bool.{and_right}
 use Rattle.std.proofs.lemmas.List.{get_or_default}
 use Rattle.jbig2_coder.specs.Coder.{Coder, Context, Registers, fresh, all_quiet}
-use Rattle.jbig2_coder.specs.Table.{qe_row}
+use Rattle.jbig2_coder.specs.QeTable.{qe_row}
 use Rattle.jbig2_region.specs.inner.Neighbours.{nominal_pixels}
 use Rattle.jbig2_base.specs.Grid.{same_colour}
 use Rattle.jbig2_region.specs.Steps.{all_of}

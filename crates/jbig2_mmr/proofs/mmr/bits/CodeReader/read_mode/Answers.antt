@@ -6,8 +6,7 @@ use Rattle.jbig2_mmr.specs.declared.mmr.codes.modes.TheConstants.{MODES}
 use Rattle.jbig2_mmr.specs.T6.{read_code}
 use Rattle.jbig2_mmr.specs.T6Codes.{modes}
 use Rattle.jbig2_base.specs.inner.BitLists.{AreBits}
-use Rattle.jbig2_mmr.specs.inner.T6Reading.{Rest, padded_bits}
-use Rattle.jbig2_mmr.specs.inner.T6Steps.{IsWithinThree}
+use Rattle.jbig2_mmr.specs.inner.T6Reading.{Rest, padded_bits, IsWithinThree}
 use Rattle.jbig2_mmr.proofs.T6Distances.{distance-is, kind-near}
 use Rattle.jbig2_mmr.proofs.T6Lookup.{lookup-none, lookup-short, lookup-some}
 use Rattle.jbig2_mmr.proofs.T6Tables.{modes-prefix_free, modes-short, mode_of, mode-none, mode-some, mode-small, kind-vertical, kind-horizontal, kind-pass}

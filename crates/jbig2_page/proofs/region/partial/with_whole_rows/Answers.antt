@@ -5,8 +5,8 @@ use Rattle.jbig2_region.specs.WholeRows.{whole_generic_rows}
 use Rattle.jbig2_region.specs.declared.generic.header.GenericRegionHeader.{GenericRegionHeader}
 use Rattle.jbig2_region.specs.inner.GenericViews.{header_view}
 use Rattle.jbig2_page.proofs.WholeRows.{whole-parsed}
-use Rattle.jbig2_page.proofs.region.generic.with_whole_rows.Goals as goal
-use Rattle.jbig2_page.proofs.region.generic.with_whole_rows.Goals.{then-is_partial+in_ok-header, else-is_partial}
+use Rattle.jbig2_page.proofs.region.partial.with_whole_rows.Goals as goal
+use Rattle.jbig2_page.proofs.region.partial.with_whole_rows.Goals.{then-is_partial+in_ok-header, else-is_partial}
 
 -- the rows that a call gives
 given : (h : GenericHeader) (rows : ℕ) → ◌≡◌ {A = Result ℕ DecodeError} (Ok (whole_generic_rows h)) (Ok rows) → rows ≡ whole_generic_rows h

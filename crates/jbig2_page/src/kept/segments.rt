@@ -1,12 +1,10 @@
 //! Segments that draw nothing and keep something for later ones (T.88, 7.4.2, 7.4.4 and 7.4.13), of
 //! a page or of its globals. Only salvage passes over one that fails.
 ghost use Rattle.std.specs.Prelude.{◌≡◌, ◌+◌, ◌*◌, ◌⊎◌, IfErr, IfOk};
-ghost use Rattle.jbig2_base.specs.Results.{Returns, Gives, refuse_if};
+ghost use Rattle.jbig2_base.specs.Results.{Gives};
 ghost use Rattle.jbig2_framing.specs.inner.SegmentViews.{segment_view};
-ghost use Rattle.jbig2_page.specs.Names.{symbol_dictionary_at, with_symbols, pattern_dictionary_at, with_patterns, with_code, extension, Names};
+ghost use Rattle.jbig2_page.specs.Names.{symbol_dictionary_at, with_symbols, pattern_dictionary_at, with_patterns, with_code, Names};
 ghost use Rattle.jbig2_page.specs.inner.KeptViews.{patterns_view, kept_symbols_view};
-ghost use Rattle.jbig2_page.specs.Causes.{BreaksExtension};
-ghost use Rattle.jbig2_base.specs.Causes.{HasCause};
 ghost use Rattle.jbig2_steps.specs.Work.{Paid, budget};
 ghost use Rattle.jbig2_halftone.specs.Steps.{price_of_patterns};
 ghost use Rattle.jbig2_halftone.specs.inner.PatternViews.{header_view};
@@ -14,8 +12,7 @@ ghost use Rattle.jbig2_halftone.specs.inner.PatternViews.{header_view};
 use crate::kept::names::{KeptNames, Lookup};
 use crate::kept::referred::gather_referred;
 use crate::workspace::{MOST_CONTEXTS, Workspace};
-use jbig2_base::error::{DecodeError, Result, SegmentError};
-use jbig2_base::field::u32_field;
+use jbig2_base::error::{DecodeError, Result};
 use jbig2_base::reader::Reader;
 use jbig2_coder::huffman_table::HuffmanTable;
 use jbig2_framing::segment::Segment;
@@ -149,31 +146,4 @@ pub(crate) fn keep_table<A: Allocator + Clone>(
     let mut reader = Reader::new(segment.bytes);
     let table = HuffmanTable::read_custom(workspace.alloc.clone()?, &mut reader)?;
     names.store_table(segment.header.segment_number, table)
-}
-
-/// An extension segment (T.88, 7.4.14): strict reading refuses one that a decoder must know.
-#[tactic(auto, using(crate::proofs::SegmentCauses::extension_cause))]
-pub(crate) fn extension(strict: bool, bytes: &[u8]) -> Result<()>
-    ensures value { Returns (λ known. known) result (extension strict bytes.now) }
-    ensures causes { HasCause result (BreaksExtension strict bytes.now) }
-{
-    if !strict {
-        return Ok(());
-    }
-    let mut reader = Reader::new(bytes);
-    let kind = u32_field(&mut reader)?;
-    if kind >= 0x8000_0000 {
-        return Err(DecodeError::Unsupported);
-    }
-    Ok(())
-}
-
-/// A segment of a type that isn't listed (T.88, 7.3): strict reading refuses it.
-pub(crate) fn unlisted(strict: bool) -> Result<()>
-    ensures { Returns (λ known. known) result (refuse_if strict (DecodeError.Segment SegmentError.UnknownType)) }
-{
-    if strict {
-        return Err(SegmentError::UnknownType.into());
-    }
-    Ok(())
 }

@@ -12,8 +12,8 @@ use Rattle.jbig2_framing.specs.declared.file_header.FileOrganization.TheVariants
 use Rattle.jbig2_framing.specs.declared.reading.Reading.{Reading}
 use Rattle.jbig2_framing.proofs.DataCauses.{data_cause}
 use Rattle.jbig2_framing.proofs.SegmentCauses.{header_cause}
-use Rattle.jbig2_page.specs.ByteCauses.{BreaksSegmentBytes, BreaksSequence, BreaksHeaders, BreaksSomeData, BreaksSegments}
-use Rattle.jbig2_page.proofs.ErrorSteps.{Refused, itself, itself_or_memory, refused-by, refused-or, more, step, if-refused}
+use Rattle.jbig2_framing.specs.ByteCauses.{BreaksSegmentBytes, BreaksSequence, BreaksHeaders, BreaksSomeData, BreaksSegments}
+use Rattle.jbig2_base.proofs.ErrorSteps.{Refused, itself, itself_or_memory, refused-by, refused-or, more, step, if-refused}
 
 headed : (strict : Bool) (bytes : List ℕ) → Refused (header_at strict bytes) (BreaksHeader strict bytes)
 headed strict bytes = refused-or (BreaksHeader strict bytes) (header_at strict bytes) (header_cause strict bytes (header_at strict bytes) (itself_or_memory (header_at strict bytes)))

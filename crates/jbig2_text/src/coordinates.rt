@@ -1,9 +1,8 @@
 //! Sums of coordinates and sizes. A result that isn't a signed number of 32 bits is refused.
 ghost use Rattle.std.specs.Prelude.{◌≡◌, ◌*◌, ◌^◌, ◌≤◌, pos, ◌+ℤ◌, ◌-ℤ◌, ◌*ℤ◌};
-ghost use Rattle.jbig2_base.specs.Results.{Returns};
+ghost use Rattle.jbig2_base.specs.Results.{Returns, word_or};
 ghost use Rattle.jbig2_base.specs.declared.error.DecodeError.TheVariants.{Symbol};
 ghost use Rattle.jbig2_base.specs.declared.error.SymbolError.TheVariants.{InvalidStripDelta};
-ghost use Rattle.jbig2_base.specs.Fields.{word_or};
 ghost use Rattle.jbig2_text.specs.Text.{coordinate, side_of, reference_offset};
 ghost use Rattle.jbig2_text.specs.inner.FunctionResults.{last_offset};
 

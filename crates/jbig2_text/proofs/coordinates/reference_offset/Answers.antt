@@ -2,7 +2,7 @@ use Rattle.std.proofs.Common.{◌≡◌, rules, w64}
 use Rattle.std.specs.Prelude.{◌+ℤ◌}
 use Rattle.std.specs.Int.{int_shr}
 use mir.Val.{to_z, of_z}
-use Rattle.jbig2_text.proofs.numbers.reference_offset.Goals as goal
+use Rattle.jbig2_text.proofs.coordinates.reference_offset.Goals as goal
 
 pub returns : goal.returns
 returns c =

@@ -10,7 +10,7 @@ use Rattle.jbig2_framing.specs.Sequential.{is_end_of_file}
 use Rattle.jbig2_framing.specs.declared.file_header.FileOrganization.{FileOrganization}
 use Rattle.jbig2_framing.specs.declared.file_header.FileOrganization.TheVariants.{RandomAccess, Sequential}
 use Rattle.jbig2_framing.specs.declared.reading.Reading.{Reading}
-use Rattle.jbig2_text.specs.Causes.{After}
+use Rattle.jbig2_base.specs.Causes.{After}
 
 -- a segment at the beginning of these bytes (7.2): its header, or its data
 abbrev pub BreaksSegmentBytes : Bool → List ℕ → DecodeError → Type 0

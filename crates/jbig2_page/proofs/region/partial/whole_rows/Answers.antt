@@ -1,6 +1,6 @@
 use Rattle.std.proofs.Common.{arith}
 use Rattle.jbig2_steps.proofs.WorkLemmas.{counts-worth}
-use Rattle.jbig2_page.proofs.region.generic.whole_rows.Goals as goal
+use Rattle.jbig2_page.proofs.region.partial.whole_rows.Goals as goal
 
 pub returns-clause-paid : goal.returns-clause-paid
 returns-clause-paid g c =

@@ -7,7 +7,7 @@ use Rattle.jbig2_base.specs.Bits.{number_after}
 use Rattle.jbig2_base.specs.Grid.{grid_of}
 use Rattle.jbig2_mmr.specs.T6Codes.{word}
 use Rattle.jbig2_mmr.specs.T6.{mmr_rows}
-use Rattle.jbig2_inverses.specs.RowWriter.{row_bits}
+use Rattle.jbig2_inverses.specs.MmrRowWriter.{row_bits}
 
 module _ (w : ℕ) (pixels : ℕ → ℕ → Bool) where  -- the width, and the pixel at each column and row
   unfoldable pub rows_bits : ℕ → ℕ → (ℕ → Bool) → List ℕ  -- n rows from row y on, under this row above
