@@ -1,6 +1,6 @@
 /* The caller's memory, as the proved calls use it: by its functions, or by malloc and free. The proof assumes that
  * these two functions give out and take back blocks as source/src/memory.rt.txt says; nothing here is proved. */
-#include "../../tools/build/processor.h"
+#include "../../tools/build/linked/processor.h"
 #include "hayro_jbig2.h"
 
 #include <stdlib.h>

@@ -37,9 +37,9 @@ const PORTABLE_FILES: [&str; 9] = [
 const PORTABLE_HEADERS: [&str; 6] =
     ["hayro_jbig2_module.h", "instance.h", "held.h", "calls.h", "wasm-rt.h", "../c/hayro_jbig2.h"];
 
-/// A note of ELF, for x86-64: the program needs a processor of the level x86-64-v2. The loader of glibc 2.33 and later then refuses
-/// an older one, before the first instruction (`tools/build/processor.h`), where GNU ld has linked the program. LLD drops the
-/// note, so `src/library/processor.rs` looks too.
+/// A note of ELF, for x86-64: the program needs a processor of the level x86-64-v2. The loader of glibc 2.33 and later then
+/// refuses an older one, before the first instruction (`tools/build/linked/processor.h`), where GNU ld has linked the program.
+/// LLD drops the note, so `src/library/processor.rs` looks too.
 const LEVEL: &str = "\t.section .note.gnu.property,\"a\",@note\n\t.p2align 3\n\t.long 4, 16, 5\n\t.asciz \"GNU\"\n\
                      \t.long 0xc0008002, 4, 3, 0\n\t.text\n";
 

@@ -4,9 +4,9 @@
 
 Each file has a page. A JBIG2 file and a PDF file of N pages (200, at most 255) are made of it, all the same page, whose
 dictionaries and tables they share. Both programs write all pages of the JBIG2 file as PBM; jbig2dec can't read PDF files.
-Programs take turns. Where clang builds limit_document.c and that draws the same page, its loop without checks takes turns
-with them. Of the processor's time, and of the time that passed, the least of the rounds (3) counts. What is written is compared.
-`make -C bindings/c` builds the command first.
+Programs take turns. Where clang builds unchecked_document.c and that draws the same page, its loop without checks takes
+turns with them. Of the processor's time, and of the time that passed, the least of the rounds (3) counts. What is written is
+compared. `make -C bindings/c` builds the command first.
 """
 from __future__ import annotations
 
@@ -49,7 +49,7 @@ def timed(words: list[str]) -> tuple[float, float]:
 
 def loop_of(file: pathlib.Path, pages: int, room: pathlib.Path, out: pathlib.Path) -> list[str]:
     """The command of the loop without checks, or nothing where it can't be."""
-    program, source = str(room / "limit_document"), str(ROOT / "testing" / "benchmarks" / "limit_document.c")
+    program, source = str(room / "unchecked_document"), str(ROOT / "testing" / "benchmarks" / "unchecked_document.c")
     words = ["clang", "-std=gnu11", "-Wall", "-Wextra", "-O3", "-march=x86-64-v2", source, "-o", program]
     # Other processors than x86-64 have no such level.
     if not shutil.which("clang") or subprocess.run(words).returncode:

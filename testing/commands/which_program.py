@@ -124,7 +124,7 @@ class Updates(Case):
         built = os.stat(self.program)
         self.assert_runs()
         # The parts are the same, whatever their times.
-        os.utime(self.path("tools", "build", "words.c"))
+        os.utime(self.path("tools", "build", "linked", "words.c"))
         self.assert_runs()
         self.assertEqual(os.stat(self.program), built)
 
@@ -138,7 +138,7 @@ class Updates(Case):
         for name in "words.c", "heap.c":
             self.assert_runs()
             before = os.stat(self.program).st_ino, os.stat(self.program).st_mtime_ns
-            self.update(f"tools/build/{name}", lambda text, name=name: text + f"\nint another_{name[0]};\n")
+            self.update(f"tools/build/linked/{name}", lambda text, name=name: text + f"\nint another_{name[0]};\n")
             self.assert_runs()
             self.assertNotEqual((os.stat(self.program).st_ino, os.stat(self.program).st_mtime_ns), before, name)
 
@@ -322,7 +322,7 @@ class Notes(Case):
         names = "crates/jbig2_base/specs/Lib.antt crates/jbig2_decode/src/lib.rt crates.txt bindings/c/crate.txt dist/SOURCES " \
                 "tools/build/program"
         tools = "tools/build/assembling.sh tools/build/crates.sh tools/build/level.sh tools/build/unchanged.c " \
-                "tools/build/words.c bindings/c/handles.c bindings/portable/handles.c"
+                "tools/build/linked/words.c bindings/c/handles.c bindings/portable/handles.c"
         for name in f"{names} {tools} dist/{PROCESSOR}/jbig2-decode.s".split():
             self.assert_is_seen(name, change)
 
@@ -416,7 +416,7 @@ class Messages(Case):
 
     def test_no_compiler_is_needed_for_what_is_built(self):
         self.assert_runs()
-        os.utime(self.path("tools", "build", "heap.c"))
+        os.utime(self.path("tools", "build", "linked", "heap.c"))
         self.assert_runs(CC="/no/such/cc")
 
     def test_no_toolchain(self):
@@ -475,7 +475,7 @@ class Folders(Case):
         nowhere = {"user": NOBODY, "HOME": "/no/such/home", "XDG_CACHE_HOME": None}
         self.assert_runs(**nowhere)
         if os.geteuid() == 0:
-            os.utime(self.path("tools", "build", "heap.c"))
+            os.utime(self.path("tools", "build", "linked", "heap.c"))
             self.assert_runs(**nowhere, CC="/no/such/cc")
 
 

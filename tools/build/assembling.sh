@@ -50,7 +50,7 @@ is_for_processor() {
 # Whether the programs' text can be linked with the compiler's C library: words.c refuses another one than glibc.
 has_library() {
     local said
-    said=$($1 -E "$dist/../tools/build/words.c" 2>&1 >/dev/null) || [[ $said != *'needs the GNU C library'* ]]
+    said=$($1 -E "$dist/../tools/build/linked/words.c" 2>&1 >/dev/null) || [[ $said != *'needs the GNU C library'* ]]
 }
 
 # Whether the text of a program fits, with the compiler that there is.
@@ -62,7 +62,7 @@ takes_text() {
 
 # The files that a program is made of: its text, or the portable C, of which there is jbig2-decode alone.
 of_text() {
-    echo "dist/$processor/$1.s" tools/build/words.c tools/build/heap.c tools/build/processor.h
+    echo "dist/$processor/$1.s" tools/build/linked/words.c tools/build/linked/heap.c tools/build/linked/processor.h
 }
 of_portable_c() {
     (cd -- "$dist/.." && echo bindings/portable/program/jbig2_decode.c bindings/portable/*.[ch] bindings/c/handles.c \

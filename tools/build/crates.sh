@@ -8,7 +8,8 @@ dist=$root/dist
 programs=(jbig2_decode jbig2_bench)
 processors=(x86_64 aarch64)
 
-# Prints the programs that have a text for a processor: jbig2-bench measures, and has one for the first alone.
+# Prints the programs that have a text for a processor. jbig2-bench runs the worked rows, and with `lists` the coder's round
+# trip: it has one for the first alone.
 programs_for() {
     if [ "$1" = "${processors[0]}" ]; then
         echo "${programs[@]}"

@@ -34,7 +34,7 @@ WRITTEN_IN_C = ("bindings/c/memory.c", "bindings/c/handles.c", "bindings/c/texts
 PORTABLE_NAMES = ("hayro_jbig2_module", "instance", "handles", "drawing", "bytes", "segments", "written")
 PORTABLE = (*(f"bindings/portable/{name}.c" for name in PORTABLE_NAMES), "bindings/c/handles.c", "bindings/c/texts.c")
 PORTABLE_HEADERS = tuple(f"bindings/portable/{name}.h" for name in ("hayro_jbig2_module", "instance", "held", "calls", "wasm-rt"))
-OTHERS = ("bindings/c/hayro_jbig2.h", "bindings/c/exports.map", "tools/build/processor.h", "LICENSE-APACHE", "LICENSE-MIT")
+OTHERS = ("bindings/c/hayro_jbig2.h", "bindings/c/exports.map", "tools/build/linked/processor.h", "LICENSE-APACHE", "LICENSE-MIT")
 INFO = f"{NAME}-{VERSION}.dist-info"
 METADATA_FIELDS = f"""\
 Metadata-Version: 2.1

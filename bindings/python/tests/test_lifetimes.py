@@ -1,13 +1,16 @@
-"""What is freed, and when: threads at exit, finalizers, signal handlers. Each program runs in a process of its own."""
+"""What is freed, and when: threads at exit, finalizers, signal handlers, faults. Each program runs in a process of its own."""
 
 from __future__ import annotations
 
 import concurrent.futures
+import contextlib
 import copy
+import gc
 import os
 import pickle
 import subprocess
 import sys
+import tracemalloc
 import unittest
 
 import hayro_jbig2
@@ -64,6 +67,19 @@ class Lifetimes(unittest.TestCase):
 
     def test_without_the_gil_globals_serve_one_thread_at_a_time(self):
         self.run_program("without_the_gil")
+
+
+class Faults(unittest.TestCase):
+    def test_a_fault_that_is_raised_keeps_no_file(self):
+        data = bytes.fromhex("974A42320D0A1A0A 03 00000000 30 00 02 00000013 00000000 00000001") + bytes(11 + 1_000_000)
+        gc.disable()
+        self.addCleanup(gc.enable)
+        tracemalloc.start()
+        self.addCleanup(tracemalloc.stop)
+        # assertRaises would clear what the fault keeps.
+        with contextlib.suppress(hayro_jbig2.FormatError):
+            hayro_jbig2.decode(bytearray(data), salvage=True)
+        self.assertLess(tracemalloc.get_traced_memory()[0], len(data))
 
 
 class Values(unittest.TestCase):

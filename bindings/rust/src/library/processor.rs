@@ -3,7 +3,7 @@
 use core::arch::x86_64::__cpuid;
 use core::sync::atomic::{AtomicBool, Ordering};
 
-/// SSE3, SSSE3, SSE4.1, SSE4.2 and POPCNT, of the level x86-64-v2: bits of ECX of leaf 1 (`tools/build/processor.h`).
+/// SSE3, SSSE3, SSE4.1, SSE4.2 and POPCNT, of the level x86-64-v2: bits of ECX of leaf 1 (`tools/build/linked/processor.h`).
 const NEEDED: u32 = 1 | 1 << 9 | 1 << 19 | 1 << 20 | 1 << 23;
 
 /// The text would end the program by an illegal instruction. The note that `build.rs` adds says so to the loader, but

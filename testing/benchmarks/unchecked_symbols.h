@@ -1,5 +1,5 @@
-/* A loop without checks for a page of symbols: its symbols, its numbers and its picture. See limit_symbols.c. */
-#include "limit.h"
+/* A loop without checks for a page of symbols: its symbols, its numbers and its picture. See unchecked_symbols.c. */
+#include "unchecked.h"
 
 enum { CONTEXTS = 512, WORD = 64 };
 

@@ -2,7 +2,7 @@
 processor, another C library, no compiler, no toolchain. The compiler only notes what it is to compile: bindings/portable/test
 compiles it. Takes seconds.
 
-usage: python3 -m testing.commands.first_commands [-v] [NAME ..]
+usage: python3 -m testing.commands.other_computers [-v] [NAME ..]
 """
 import os
 import re

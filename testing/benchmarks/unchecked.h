@@ -97,7 +97,7 @@ ALWAYS_INLINE unsigned renormalized(struct decoder *decoder, uint8_t *context, s
 }
 
 static void fail(const char *what) {
-    fprintf(stderr, "limit: %s\n", what);
+    fprintf(stderr, "unchecked: %s\n", what);
     exit(1);
 }
 

@@ -1,5 +1,5 @@
 /* What ends a program at its start where the processor lacks what the assembly text of x86-64 uses: the level x86-64-v2.
- * Without it the text's first such instruction would end it by a signal. Included by ../../bindings/c/memory.c and words.c. */
+ * Without it the text's first such instruction would end it by a signal. Included by ../../../bindings/c/memory.c and words.c. */
 #ifndef HAYRO_JBIG2_PROCESSOR_H
 #define HAYRO_JBIG2_PROCESSOR_H
 

@@ -2,15 +2,15 @@
  * How fast a document of equal pages of symbols can be decoded and written without checks: its symbols once, and for each page
  * its numbers and its picture.
  *
- * usage: limit_document FILE.jb2 PAGES
+ * usage: unchecked_document FILE.jb2 PAGES
  *
- * FILE is one that limit_symbols.c takes. Writes PAGES pages to standard output, as PBM.
+ * FILE is one that unchecked_symbols.c takes. Writes PAGES pages to standard output, as PBM.
  */
-#include "limit_symbols.h"
+#include "unchecked_symbols.h"
 
 int main(int count, char **words) {
     if (count != 3)
-        fail("usage: limit_document FILE.jb2 PAGES");
+        fail("usage: unchecked_document FILE.jb2 PAGES");
     struct input input = read_input(words[1]);
     decode_dictionary(&input);
     for (int pages = atoi(words[2]); pages > 0; pages--) {

@@ -1,13 +1,13 @@
 /*
  * How fast a generic region can be decoded: a loop for its pixels alone, without checks, beside which the program is measured.
  *
- * usage: limit FILE.jb2 [RUNS]
+ * usage: unchecked FILE.jb2 [RUNS]
  *
  * FILE has one page, and as its first region a generic one by arithmetic coding, of template 0 or 3 with nominal adaptive pixels
  * and without typical prediction. Writes the least milliseconds of RUNS runs (1) to standard error and the page to standard
  * output, as PBM. It trusts the file.
  */
-#include "limit.h"
+#include "unchecked.h"
 
 enum { MARGIN = 16, GROUP = 8 };
 
@@ -139,7 +139,7 @@ static struct region region_of(const uint8_t *file, size_t size) {
 int main(int count, char **words) {
     size_t size;
     if (count < 2)
-        fail("usage: limit FILE.jb2 [RUNS]");
+        fail("usage: unchecked FILE.jb2 [RUNS]");
     const uint8_t *file = read_file(words[1], &size);
     struct region region = region_of(file, size);
     make_states();

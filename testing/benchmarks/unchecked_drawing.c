@@ -1,13 +1,13 @@
 /*
  * What drawing the symbols of a page takes, by where they lie: the same list of instances, without checks.
  *
- * usage: limit_drawing FILE.jb2 [RUNS]
+ * usage: unchecked_drawing FILE.jb2 [RUNS]
  *
- * FILE is one that limit_symbols.c takes. Prints the least milliseconds of RUNS pages (200) by each way, without the page's
- * clearing: symbols as the library keeps them, a list of addresses of structs, each with the address of a block of rows; one
+ * FILE is one that unchecked_symbols.c takes. Prints the least milliseconds of RUNS pages (200) by each way, without the
+ * page's clearing: symbols as the library keeps them, a list of addresses of structs, each with the address of a block of rows; one
  * table of sizes and addresses of the same blocks; and one table and all rows side by side. The pages must be the same.
  */
-#include "limit_symbols.h"
+#include "unchecked_symbols.h"
 
 /* A bitmap as large as the library's, with its rows in a block of its own. */
 struct bitmap {
@@ -63,7 +63,7 @@ int main(int count, char **words) {
     static void (*const ways[])(const struct input *) = {draw_by_list, draw_by_table, draw_packed};
     double least[] = {1e9, 1e9, 1e9};
     if (count < 2)
-        fail("usage: limit_drawing FILE.jb2 [RUNS]");
+        fail("usage: unchecked_drawing FILE.jb2 [RUNS]");
     struct input input = read_input(words[1]);
     decode(&input);
     size_t size = page.words * page.height * sizeof *page.rows;
