@@ -44,7 +44,7 @@ def striped(width, height):
 
 def example():
     """The example of T.88 H.1: its file's name, and the bitmaps of its three pages as the tests of the crates have them."""
-    source = os.path.join(ROOT, "crates", "jbig2_program_tests", "src", "commands", "t88_example.rt")
+    source = os.path.join(ROOT, "crates", "hayro_jbig2_tests", "src", "commands", "t88_example.rt")
     with open(source, encoding="utf-8") as file:
         text = file.read()
     pages = {}

@@ -12,11 +12,11 @@ QUOTES = {
     "bindings/c/tool/hayro-jbig2.1": "Huffman(InvalidCode)",
     "crates/jbig2_base/wrong-bodies/text_of_an_inner_error_lost.edit": "Symbol(Invalid)",
     "crates/jbig2_base/wrong-bodies/text_of_another_error.edit": "Huffman(InvalidCode) Huffman(UnexpectedOob)",
-    "crates/jbig2_program_tests/src/commands.rt":
+    "crates/hayro_jbig2_tests/src/commands.rt":
         "Parse(UnexpectedEof) Format(InvalidHeader) Format(MissingPageInfo) Format(InvalidEndOfPage) Unsupported OutOfMemory",
-    "crates/jbig2_program_tests/src/large.rt": "Symbol(TooManyInstances)",
-    "crates/jbig2_program_tests/src/lists.rt": "OutOfMemory",
-    "crates/jbig2_program_tests/src/readers.rt": "Unsupported",
+    "crates/hayro_jbig2_tests/src/large.rt": "Symbol(TooManyInstances)",
+    "crates/hayro_jbig2_tests/src/lists.rt": "OutOfMemory",
+    "crates/hayro_jbig2_tests/src/readers.rt": "Unsupported",
     # Others than the decoder run out of memory, too, and say so in the same words.
     "bindings/c/tool/README.md": "OutOfMemory",
     "bindings/c/tool/messages.c": "OutOfMemory",

@@ -18,7 +18,7 @@ IN_C = r"HAYRO_JBIG2_(?P<in_c>\w+)"
 # Lists in the crates.
 TEXTS_IN_CRATES = (
     ("crates/jbig2_base/src/error_text.rt", rf"{IN_CRATE} => f\.write_str\(\s*{SAID}"),
-    ("crates/jbig2_program_tests/src/errors.rt", rf"{IN_CRATE}\)?,\s*{SAID}"),
+    ("crates/jbig2_tests/src/base/errors.rt", rf"{IN_CRATE}\)?,\s*{SAID}"),
 )
 # What no definition has: success, and what a caller of C alone can get wrong.
 OTHERS_FOR_C = rf"case {IN_C}:\s*return {SAID};"

@@ -1,7 +1,7 @@
 //! The program `jbig2-decode`: prints the pages of a JBIG2 file, the calls that draw a page, or a bitmap.
 #![tactic(auto)]
 
-use jbig2_commands::{RunEnd, file_word, run};
+use jbig2_program::{RunEnd, file_word, run};
 use std::fs::File;
 use std::io::ErrorKind;
 use std::process::ExitCode;

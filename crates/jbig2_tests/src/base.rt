@@ -1,5 +1,6 @@
 //! Tests bitmaps, and each public call of readers, fields, codes and operators.
 mod bitmaps;
+mod errors;
 
 use jbig2_base::bitmap::operator::CombinationOperator;
 use jbig2_base::code_length::code_length;

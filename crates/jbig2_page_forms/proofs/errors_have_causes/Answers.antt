@@ -1,5 +1,0 @@
-use Rattle.jbig2_page_forms.proofs.errors_have_causes.Goals as goal
-use Rattle.jbig2_page_forms.proofs.PageErrors as lemmas
-
-pub returns : goal.returns
-returns c = lemmas.errors_have_causes

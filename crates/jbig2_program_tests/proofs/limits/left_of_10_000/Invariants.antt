@@ -1,4 +1,0 @@
-use Rattle.jbig2_program_tests.proofs.limits.left_of_10_000.Given as goal
-
-abbrev pub ghosts-left_by_page : goal.ghosts-left_by_page
-ghosts-left_by_page a = record { name = a.blank.name; parts = a.blank.parts }
