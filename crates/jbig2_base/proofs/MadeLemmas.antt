@@ -1,45 +1,42 @@
 -- Counts of bitmaps that are made.
 use Rattle.std.specs.Prelude.{◌⊎◌, if◌then◌else◌, ◌||◌}
-use Rattle.std.proofs.Common.{◌≡◌, ℕ, ◌+◌, ◌*◌, ◌/◌, ◌<◌, ◌≤◌, Bool, true, false, ltb, inl, inr, ap, refl, sym, ◌∙◌, arith}
+use Rattle.std.proofs.Common.{◌≡◌, ℕ, ◌+◌, ◌*◌, ◌/◌, ◌<◌, ◌≤◌, Bool, true, false, ltb, inl, inr, Result, Ok, Err, ap, refl, sym, ◌∙◌, arith}
 use Rattle.std.proofs.lemmas.Bool.{cond-true, cond-false}
 use Rattle.std.proofs.lemmas.Bool.Decides.{nat_tests}
 use Rattle.std.proofs.Math.Nat.{mul-le-mul_right}
 use Rattle.jbig2_base.specs.Counts.{Counts, bitmap_made, words_of, wide_words_made, words_cleared, words_made}
-use Rattle.jbig2_base.specs.Grid.{Grid, max_side}
+use Rattle.jbig2_base.specs.Grid.{Grid, blank, blank_or_overflow, max_side}
+use Rattle.jbig2_base.specs.Results.{◌>>=◌, refuse_if}
+use Rattle.jbig2_base.specs.declared.error.DecodeError.{DecodeError}
 use Rattle.jbig2_steps.specs.Work.{paid_words, price_of_bitmap, sum_of_counts, words_of_row}
 use Rattle.jbig2_steps.proofs.WorkLemmas.{room-paid}
 use Rattle.jbig2_base.proofs.CountLemmas.{cleared-as, cleared-none}
 
--- ---- sides that are refused, and others
-long-columns : (w h : ℕ) → 65535 < w → (ltb 65535 w || ltb 65535 h) ≡ true
-long-columns w h long = grind (arith, nat_tests)
-
-long-rows : (w h : ℕ) → 65535 < h → (ltb 65535 w || ltb 65535 h) ≡ true
-long-rows w h long = grind (arith, nat_tests)
-
-short-sides : (w h : ℕ) → w ≤ 65535 → h ≤ 65535 → (ltb 65535 w || ltb 65535 h) ≡ false
-short-sides w h columns rows = grind (arith, nat_tests)
-
+-- ---- areas
 large-area : (n : ℕ) → 65535 * 65535 < n → ltb (65535 * 65535) n ≡ true
 large-area n large = grind (arith, nat_tests)
 
 small-area : (n : ℕ) → n ≤ 65535 * 65535 → ltb (65535 * 65535) n ≡ false
 small-area n small = grind (arith, nat_tests)
 
-pub made-too_wide : (w h : ℕ) (s : Counts) → 65535 < w → s ≡ bitmap_made w h s
-unfolding words_made
-made-too_wide w h s long = cleared-none s _ (cond-true _ 0 ((w + 63) / 64 * h) (long-columns w h long))
+-- ---- by the check of the sides
+refused-sides : (refused : Bool) (g : Grid) (e f : DecodeError) → (refuse_if refused e >>= λ _. Ok g) ≡ Err f → refused ≡ true
+refused-sides true g e f is = refl
+refused-sides false g e f is = cc
 
-pub made-too_high : (w h : ℕ) (s : Counts) → 65535 < h → s ≡ bitmap_made w h s
-unfolding words_made
-made-too_high w h s long = cleared-none s _ (cond-true _ 0 ((w + 63) / 64 * h) (long-rows w h long))
+accepted-sides : (refused : Bool) (g made : Grid) (e : DecodeError) → (refuse_if refused e >>= λ _. Ok g) ≡ Ok made → refused ≡ false
+accepted-sides true g made e is = cc
+accepted-sides false g made e is = refl
 
-pub made-of : (w h : ℕ) → w ≤ 65535 → h ≤ 65535 → words_made w h ≡ (w + 63) / 64 * h
+pub made-refused : (w h : ℕ) (black : Bool) (s : Counts) (e : DecodeError) → blank_or_overflow w h black ≡ Err e → s ≡ bitmap_made w h s
 unfolding words_made
-made-of w h columns rows = cond-false _ 0 ((w + 63) / 64 * h) (short-sides w h columns rows)
+made-refused w h black s e is =
+    cleared-none s _ (cond-true _ 0 ((w + 63) / 64 * h) (refused-sides (ltb 65535 w || ltb 65535 h) (blank w h black) _ e is))
 
-pub made-here : (w h : ℕ) (s t : Counts) → w ≤ 65535 → h ≤ 65535 → t ≡ words_cleared ((w + 63) / 64 * h) s → t ≡ bitmap_made w h s
-made-here w h s t columns rows cleared = cleared-as s t _ _ cleared (sym (made-of w h columns rows))
+pub made-accepted : (w h : ℕ) (black : Bool) (g : Grid) (s t : Counts) → blank_or_overflow w h black ≡ Ok g → t ≡ words_cleared ((w + 63) / 64 * h) s → t ≡ bitmap_made w h s
+unfolding words_made
+made-accepted w h black g s t is cleared =
+    cleared-as s t _ _ cleared (sym (cond-false _ 0 ((w + 63) / 64 * h) (accepted-sides (ltb 65535 w || ltb 65535 h) (blank w h black) g _ is)))
 
 pub wide-refused : (w h : ℕ) (s : Counts) → 65535 * 65535 < w * h → s ≡ words_cleared (wide_words_made w h) s
 unfolding wide_words_made
