@@ -5,5 +5,6 @@ pub use jbig2_framing::{file, page_info, reading, segment};
 pub use jbig2_halftone::{gray_scale, halftone, pattern};
 pub use jbig2_mmr::mmr;
 pub use jbig2_region::{generic, generic_refinement, region_info, template};
+pub use jbig2_steps as steps;
 pub use jbig2_symbol as symbol;
 pub use jbig2_text as text;
