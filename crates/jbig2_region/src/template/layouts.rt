@@ -125,7 +125,7 @@ fn one_adaptive(a: &[AdaptiveTemplatePixel; 4]) -> Adaptives<'_>
     }
 }
 
-pub fn adaptives(template: Template, a: &[AdaptiveTemplatePixel; 4]) -> Adaptives<'_>
+pub fn adaptives_of(template: Template, a: &[AdaptiveTemplatePixel; 4]) -> Adaptives<'_>
     ensures { FitsAdaptives template a.now result }
 {
     match template {
@@ -149,7 +149,7 @@ pub fn read_layout(template: Template, a: &[AdaptiveTemplatePixel; 4]) -> Layout
 {
     Layout {
         neighbours: fixed_neighbours(template),
-        adaptive: Some(adaptives(template, a)),
+        adaptive: Some(adaptives_of(template, a)),
     }
 }
 

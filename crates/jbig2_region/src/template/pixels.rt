@@ -5,7 +5,7 @@ ghost use Rattle.jbig2_region.specs.Templates.{template_pixels};
 ghost use Rattle.jbig2_region.specs.inner.PixelArrays.{four_pixels};
 ghost use Rattle.jbig2_region.specs.inner.Neighbours.{IsMixed, mixed_pixels, side_by_side};
 
-use crate::template::layouts::{Adaptives, adaptives, fixed_neighbours};
+use crate::template::layouts::{Adaptives, adaptives_of, fixed_neighbours};
 use crate::template::neighbours::Neighbours;
 use crate::template::{AdaptiveTemplatePixel, Template, pixel};
 use std::marker::Model;
@@ -37,7 +37,7 @@ impl TemplatePixels {
     pub fn regular(template: Template, a: &[AdaptiveTemplatePixel; 4]) -> TemplatePixels
         ensures { result ≡ template_pixels false template (four_pixels template a.now) }
     {
-        TemplatePixels::from_neighbours(fixed_neighbours(template), &adaptives(template, a))
+        TemplatePixels::from_neighbours(fixed_neighbours(template), &adaptives_of(template, a))
     }
 
     fn from_neighbours(neighbours: Neighbours, adaptive: &Adaptives<'_>) -> TemplatePixels
