@@ -4,4 +4,4 @@ pub mod FunctionResults
 pub mod GrayScaleViews
 pub mod HalftoneHeaderViews
 pub mod NextValues
-pub mod PatternViews
+pub mod PatternHeaderViews

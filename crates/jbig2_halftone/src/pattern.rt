@@ -13,7 +13,7 @@ ghost use Rattle.jbig2_region.specs.declared.template.GenericTemplatePixels.TheV
 ghost use Rattle.jbig2_halftone.specs.PatternHeader.{side_at, pattern_header_at};
 ghost use Rattle.jbig2_halftone.specs.Patterns.{collective_width, collective_header, patterns_of, patterns_decoded, dictionary_contexts};
 ghost use Rattle.jbig2_halftone.specs.inner.DictionaryViews.{dictionary_view};
-ghost use Rattle.jbig2_halftone.specs.inner.PatternViews.{header_view};
+ghost use Rattle.jbig2_halftone.specs.inner.PatternHeaderViews.{header_view};
 ghost use Rattle.jbig2_halftone.specs.inner.FunctionResults.{pattern_of, patterns_cut, StopsCut};
 ghost use Rattle.jbig2_halftone.specs.Steps.{CountsDictionary, StopsDictionary, TakesNoLanes, collective_made, price_of_patterns};
 ghost use Rattle.jbig2_base.specs.Causes.{HasCause, HasCauseOrNoMemory};

@@ -20,8 +20,8 @@ use Rattle.jbig2_halftone.specs.inner.HalftoneHeaderViews as halftones
 use Rattle.jbig2_halftone.specs.inner.DictionaryViews.{dictionary_view}
 use Rattle.jbig2_region.specs.RegionInfo.{PlacedRegion, at_location}
 use Rattle.jbig2_region.specs.inner.RegionViews.{region_view}
-use Rattle.jbig2_region.specs.inner.GenericViews as generics
-use Rattle.jbig2_region.specs.inner.RefinedViews as refinements
+use Rattle.jbig2_region.specs.inner.GenericHeaderViews as generics
+use Rattle.jbig2_region.specs.inner.RefinementHeaderViews as refinements
 use Rattle.jbig2_region.specs.Refinement.{refined_decoded}
 use Rattle.jbig2_region.specs.declared.generic_refinement.header.GenericRefinementRegionHeader.{GenericRefinementRegionHeader}
 use Rattle.jbig2_region.specs.declared.decoded_region.DecodedRegion.{DecodedRegion}

@@ -21,8 +21,8 @@ use Rattle.jbig2_region.specs.RegionInfo.{PlacedRegion, at_location}
 use Rattle.jbig2_region.specs.Refinement.{Reference, offset, reference_of, reference_pixel, refined_context, refined_grid, refined_region, refinement_coding, refined_result}
 use Rattle.jbig2_region.specs.RefinementTemplates.{reference_pixels, region_pixels}
 use Rattle.jbig2_region.specs.RefinementHeader.{IsRefinement, RefinementHeader}
-use Rattle.jbig2_region.specs.inner.GenericViews as generics
-use Rattle.jbig2_region.specs.inner.RefinedViews as refinements
+use Rattle.jbig2_region.specs.inner.GenericHeaderViews as generics
+use Rattle.jbig2_region.specs.inner.RefinementHeaderViews as refinements
 use Rattle.jbig2_region.specs.declared.generic.header.GenericRegionHeader.{GenericRegionHeader}
 use Rattle.jbig2_region.specs.declared.generic_refinement.header.GenericRefinementRegionHeader.{GenericRefinementRegionHeader}
 use Rattle.jbig2_region.specs.declared.region_info.RegionSegmentInfo.{RegionSegmentInfo}

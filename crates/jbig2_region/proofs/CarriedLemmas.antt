@@ -7,9 +7,9 @@ use Rattle.jbig2_base.specs.Grid.{Grid, pixel}
 use Rattle.jbig2_base.specs.Bits.{bit}
 use Rattle.jbig2_base.proofs.BitLemmas.{bit-above, bit-or, bit-shl_high, bit-shl_low, bit-shr, bit-zero, or-false}
 use Rattle.jbig2_base.proofs.GridLemmas.{pixel_at-right}
-use Rattle.jbig2_region.specs.inner.Neighbours.{IsBefore, IsWindow, Shows, ShowsBefore}
 use Rattle.jbig2_region.specs.declared.generic_kernel.windows.Windows.{Windows}
 use Rattle.jbig2_region.proofs.WindowLemmas.{pixel-left_of_all}
+use Rattle.jbig2_region.specs.inner.Windows.{IsBefore, IsWindow, Shows, ShowsBefore}
 
 -- `(first << count) | (second >> (64 - count))`: a bit of the first, and one of the second
 joined-first : (first second count b : ℕ) → second < 2 ^ 64 → count ≤ b → b < 64 → bit (bit_or (first * 2 ^ count % 2 ^ 64) (second / 2 ^ (64 - count))) b ≡ bit first (b - count)

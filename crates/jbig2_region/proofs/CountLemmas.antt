@@ -5,7 +5,7 @@ use Rattle.std.proofs.lemmas.Bool.{cases_eq, cases_lt, eq-eqb, ne_eqb, lt-ltb, l
 use Rattle.std.proofs.lemmas.Nat.{mod-mul-add}
 use Rattle.jbig2_base.specs.Grid.{Grid, bit_number}
 use Rattle.jbig2_coder.specs.Coder.{Coder, Context}
-use Rattle.jbig2_region.specs.inner.Neighbours.{DecodesPixels, is_nominal_layout, nominal_pixels, optional_pixels, row_coding}
+use Rattle.jbig2_region.specs.inner.Neighbours.{DecodesPixels, nominal_pixels, optional_pixels, row_coding}
 use Rattle.jbig2_region.specs.Raster.{Region}
 use Rattle.jbig2_region.specs.inner.Rows.{after_pixels}
 use Rattle.jbig2_region.specs.Steps.{is_run_of, is_run_byte}
@@ -16,6 +16,7 @@ use Rattle.jbig2_region.specs.declared.template.AdaptiveTemplatePixel.{AdaptiveT
 use Rattle.jbig2_region.proofs.RasterLemmas.{after_pixels-length, after_pixels-predicted, after_pixels-add}
 use Rattle.jbig2_region.proofs.StoreLemmas.{width-so_far}
 use Rattle.jbig2_region.specs.inner.RegionStates.{region_state}
+use Rattle.jbig2_region.specs.inner.Layouts.{is_nominal_layout}
 
 -- no run byte begins here
 not-run : (template : List AdaptiveTemplatePixel) (w h : ℕ) (input : List ℕ) (r : Region) (x y : ℕ) → length r.pixels ≡ y * w + x → x < w → (x % 8 ≡ 0 → x + 8 < w → ⊥) → is_run_byte template w h input r ≡ false

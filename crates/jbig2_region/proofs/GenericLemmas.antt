@@ -7,7 +7,7 @@ use Rattle.jbig2_base.specs.Grid.{Grid, blank}
 use Rattle.jbig2_coder.specs.Coder.{Coder, Context, initial_registers}
 use Rattle.jbig2_region.specs.Generic.{generic_coding, generic_region, generic_grid, generic_result, contexts_after}
 use Rattle.jbig2_region.specs.GenericHeader.{GenericHeader}
-use Rattle.jbig2_region.specs.inner.GenericViews.{header_view}
+use Rattle.jbig2_region.specs.inner.GenericHeaderViews.{header_view}
 use Rattle.jbig2_base.specs.Counts.{Counts}
 use Rattle.jbig2_region.specs.inner.RegionStates.{HasDecoded, region_state}
 use Rattle.jbig2_region.specs.GenericSteps.{CountsCoded, CountsGeneric}

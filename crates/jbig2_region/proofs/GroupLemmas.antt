@@ -8,7 +8,7 @@ use Rattle.jbig2_base.specs.Bits.{bit}
 use Rattle.jbig2_base.specs.Writes.{with_pixels}
 use Rattle.jbig2_coder.specs.Coder.{Coder, Context}
 use Rattle.jbig2_region.specs.inner.RegionStates.{HasDecoded, region_state}
-use Rattle.jbig2_region.specs.inner.Neighbours.{nominal_pixels, neighbours_stay, is_field, IsNear, IsLeft, SameAbove, Shows, ShowsByte, ShowsGroup, ShowsRun}
+use Rattle.jbig2_region.specs.inner.Neighbours.{nominal_pixels, neighbours_stay, is_field, IsNear, SameAbove}
 use Rattle.jbig2_region.specs.Raster.{Region, so_far}
 use Rattle.jbig2_region.specs.Steps.{has_all, keeps_context}
 use Rattle.jbig2_region.specs.declared.template.neighbours.Neighbours.{Neighbours}
@@ -20,6 +20,7 @@ use Rattle.jbig2_region.proofs.RunSteps.{left-run, run-grid, run-length}
 use Rattle.jbig2_region.proofs.StoreLemmas.{width-so_far, height-so_far}
 use Rattle.jbig2_region.proofs.UniformLemmas.{full, full-bit, field-all}
 use Rattle.jbig2_region.proofs.WindowLemmas.{shows-less, shows-same}
+use Rattle.jbig2_region.specs.inner.Windows.{IsLeft, Shows, ShowsByte, ShowsGroup, ShowsRun}
 
 -- `MAX >> (64 - count)`
 pub ones : (count : ℕ) → count ≤ 64 → (2 ^ 64 - 1) / 2 ^ (64 - count) ≡ 2 ^ count - 1

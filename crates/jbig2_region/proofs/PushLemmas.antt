@@ -14,11 +14,12 @@ use Rattle.jbig2_coder.specs.Coder.{Coder, Context}
 use Rattle.jbig2_region.specs.Raster.{Region, after_ltp}
 use Rattle.jbig2_region.specs.inner.RegionStates.{BeginsRow, HasDecoded, region_state}
 use Rattle.jbig2_region.specs.inner.PushedPixels.{IsAtPixels, IsAtRow}
-use Rattle.jbig2_region.specs.inner.Neighbours.{IsLeft, SameAbove, Shows, ShowsRun}
+use Rattle.jbig2_region.specs.inner.Neighbours.{SameAbove}
 use Rattle.jbig2_region.specs.declared.generic_kernel.windows.Windows.{Windows}
 use Rattle.jbig2_region.proofs.RegisterLemmas.{bit-low, bit-placed, left-few}
 use Rattle.jbig2_region.proofs.StoreLemmas.{left-none, stored-above, stored-before, stored-inside, stored-outside}
 use Rattle.jbig2_region.proofs.WindowLemmas.{pixel-inside, same-above, shows-less, shows-same, window-first, window-none}
+use Rattle.jbig2_region.specs.inner.Windows.{IsLeft, Shows, ShowsRun}
 
 -- n pixels and m more are n + m pixels
 pub stored-then : (g : Grid) (x y n m a b : ℕ) → b < 2 ^ m → x + n ≤ g.width → y < g.height → with_pixels (with_pixels g x y n a) (x + n) y m b ≡ with_pixels g x y (n + m) (a * 2 ^ m + b)

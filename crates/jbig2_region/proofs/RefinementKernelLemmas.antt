@@ -6,7 +6,6 @@ use Rattle.jbig2_base.specs.Writes.{with_pixels}
 use Rattle.jbig2_coder.specs.Coder.{Coder, Context}
 use Rattle.jbig2_region.specs.Refinement.{Reference, refinement_coding}
 use Rattle.jbig2_region.specs.inner.DecodedPixels.{DecodesPart, CountsPart, TakesPixel}
-use Rattle.jbig2_region.specs.inner.Neighbours.{IsLeft}
 use Rattle.jbig2_region.specs.inner.RefinementBlocks.{Block}
 use Rattle.jbig2_region.specs.inner.RefinementWindows.{SeesRows, context_made, corners, four_of, known_of, nine_of}
 use Rattle.jbig2_region.specs.Raster.{Coding}
@@ -17,6 +16,7 @@ use Rattle.jbig2_region.proofs.RefinementWindowLemmas.{windows-colour, windows-c
 use Rattle.jbig2_region.proofs.RegisterLemmas.{left-few, left-whole}
 use Rattle.jbig2_region.proofs.StoreLemmas.{left-bit, left-start, stored-above, stored-push}
 use Rattle.jbig2_region.specs.inner.RegionStates.{counted_decoder, counted_region, region_state}
+use Rattle.jbig2_region.specs.inner.Windows.{IsLeft}
 
 -- ---- a block
 pub more : (pixels symbol k : ℕ) (c : Bool) → symbol ≡ bit_number c → pixels < 16 * 2 ^ k → pixels * 2 + symbol < 16 * 2 ^ (k + 1)

@@ -10,13 +10,14 @@ use Rattle.jbig2_base.proofs.GridLemmas.{pixel_at-right}
 use Rattle.jbig2_region.specs.Generic.{number_of, region_pixel}
 use Rattle.jbig2_region.specs.Refinement.{Reference, reference_pixel, refined_context, nine, common_colour}
 use Rattle.jbig2_region.specs.RefinementTemplates.{at_xy, reference_pixels, region_pixels}
-use Rattle.jbig2_region.specs.inner.Neighbours.{IsLeft, SameAbove}
+use Rattle.jbig2_region.specs.inner.Neighbours.{SameAbove}
 use Rattle.jbig2_region.specs.inner.RefinementWindows.{Sees, SeesRows, colour_of, context_made, corners, four_of, known_of, nine_of, three_of}
 use Rattle.jbig2_region.specs.declared.refinement_kernel.windows.RefinementWindows.{RefinementWindows}
 use Rattle.jbig2_region.specs.declared.template.RefinementTemplate.{RefinementTemplate}
 use Rattle.jbig2_region.specs.declared.template.RefinementTemplate.TheVariants.{Template0, Template1}
 use Rattle.jbig2_region.proofs.RefinementLemmas.{common-black, common-white, common-none}
 use Rattle.jbig2_region.proofs.WindowLemmas.{pixel-row_negative, pixel-inside, pixel-left_of_all, same-above}
+use Rattle.jbig2_region.specs.inner.Windows.{IsLeft}
 
 -- ---- windows
 pub sees-none_above : (g : Grid) (column row : ℤ) → row <ℤ pos 0 → Sees g column row 0

@@ -7,12 +7,13 @@ use Rattle.jbig2_base.specs.Grid.{Grid, pixel}
 use Rattle.jbig2_base.specs.Bits.{bit}
 use Rattle.jbig2_base.proofs.BitLemmas.{bit-mod, bit-shr}
 use Rattle.jbig2_region.specs.Generic.{context_at}
-use Rattle.jbig2_region.specs.inner.Neighbours.{left_pixels, stretch_pixels, nominal_pixels, cut_of, register_of, IsNear, IsWindow, SameAbove, Shows, IsLeft}
+use Rattle.jbig2_region.specs.inner.Neighbours.{left_pixels, stretch_pixels, nominal_pixels, cut_of, register_of, IsNear, SameAbove}
 use Rattle.jbig2_region.specs.declared.template.neighbours.Neighbours.{Neighbours}
 use Rattle.jbig2_region.specs.declared.template.neighbours.Stretch.{Stretch}
 use Rattle.jbig2_region.specs.declared.generic_kernel.windows.Windows.{Windows}
 use Rattle.jbig2_region.proofs.ContextBits.{context-append, side-context, length-side}
 use Rattle.jbig2_region.proofs.WindowLemmas.{left-context, same-above}
+use Rattle.jbig2_region.specs.inner.Windows.{IsLeft, IsWindow, Shows}
 
 -- ---- the bits of a number of two parts
 pub bit-placed : (low n m j : ℕ) → low < 2 ^ m → bit (low + n * 2 ^ m) (m + j) ≡ bit n j

@@ -9,7 +9,7 @@ use Rattle.jbig2_base.specs.Grid.{Grid, pixel, pixel_at, same_colour}
 use Rattle.jbig2_base.specs.Bits.{bit}
 use Rattle.jbig2_base.proofs.GridLemmas.{pixel_at-grid_of, pixel_at-right, pixel_at-below}
 use Rattle.jbig2_region.specs.Generic.{context_at}
-use Rattle.jbig2_region.specs.inner.Neighbours.{left_pixels, stretch_pixels, nominal_pixels, neighbours_stay, stretch_stays, is_field, neighbour_count, IsNear, IsLeft, IsWindow, Shows, SameAbove}
+use Rattle.jbig2_region.specs.inner.Neighbours.{left_pixels, stretch_pixels, nominal_pixels, neighbours_stay, stretch_stays, is_field, neighbour_count, IsNear, SameAbove}
 use Rattle.jbig2_coder.specs.Coder.{Coder, Context, Registers, fresh, all_quiet}
 use Rattle.jbig2_region.specs.inner.RegionStates.{HasDecoded, region_state}
 use Rattle.jbig2_region.specs.Raster.{Region, so_far}
@@ -22,6 +22,7 @@ use Rattle.jbig2_region.specs.declared.template.AdaptiveTemplatePixel.{AdaptiveT
 use Rattle.jbig2_region.proofs.ContextBits.{context-append, context-lt_few, length-side}
 use Rattle.jbig2_region.proofs.UniformLemmas.{full, full-lt, full-add, full-black, full-white, field-gives, field-all, side-pixel, side-all, side-gives, same-parts}
 use Rattle.jbig2_region.proofs.WindowLemmas.{same-above, pixel-inside, pixel-left_of_all}
+use Rattle.jbig2_region.specs.inner.Windows.{IsLeft, IsWindow, Shows}
 
 pub eq_from : (a b : Bool) → (a ≡ true → b ≡ true) → (b ≡ true → a ≡ true) → a ≡ b
 eq_from true b f g = sym (f refl)

@@ -13,7 +13,7 @@ use Rattle.jbig2_coder.proofs.Runs.{is_quiet-decision}
 use Rattle.jbig2_region.specs.Generic.{context_at}
 use Rattle.jbig2_region.specs.inner.RegionStates.{HasDecoded, region_state}
 use Rattle.jbig2_region.specs.inner.LongRuns.{is_run_for}
-use Rattle.jbig2_region.specs.inner.Neighbours.{IsLeft, row_coding}
+use Rattle.jbig2_region.specs.inner.Neighbours.{row_coding}
 use Rattle.jbig2_region.specs.Raster.{Region, so_far, with_next, after_pixel}
 use Rattle.jbig2_region.specs.inner.Rows.{after_pixels}
 use Rattle.jbig2_region.specs.Steps.{all_of, has_all, keeps_context, is_run_of}
@@ -25,6 +25,7 @@ use Rattle.jbig2_region.proofs.RunLemmas.{stays-context, stays-from, stays-gives
 use Rattle.jbig2_region.proofs.StoreLemmas.{stored-push, stored-inside, none-stored, white-next, width-so_far, height-so_far}
 use Rattle.jbig2_region.proofs.UniformLemmas.{full, full-bit, full-black, full-white}
 use Rattle.jbig2_region.proofs.WindowLemmas.{pixel-inside}
+use Rattle.jbig2_region.specs.inner.Windows.{IsLeft}
 
 -- the registers once A has fallen
 abbrev pub lowered : Registers → ℕ → Registers

@@ -14,7 +14,7 @@ use Rattle.jbig2_region.specs.Raster.{Coding, Region, at_pixel}
 use Rattle.jbig2_region.specs.{Steps.{CountsSkipping, kept_pixels, skipping_loads, skipping_words}, Generic.{skipping_coding}}
 use Rattle.jbig2_region.specs.inner.DecodedPixels.{TakesPixel}
 use Rattle.jbig2_region.specs.inner.Masks.{IsMask, plain_context}
-use Rattle.jbig2_region.specs.inner.Neighbours.{IsLeft, IsNear, SameAbove, Shows, left_pixels, nominal_pixels, stretch_pixels}
+use Rattle.jbig2_region.specs.inner.Neighbours.{IsNear, SameAbove, left_pixels, nominal_pixels, stretch_pixels}
 use Rattle.jbig2_region.specs.inner.RefinementBlocks.{Block}
 use Rattle.jbig2_region.specs.declared.template.AdaptiveTemplatePixel.{AdaptiveTemplatePixel}
 use Rattle.jbig2_region.specs.declared.template.neighbours.Neighbours.{Neighbours}
@@ -29,6 +29,7 @@ use Rattle.jbig2_region.proofs.RegisterLemmas.{left-few, left-whole}
 use Rattle.jbig2_region.proofs.StoreLemmas.{left-bit, stored-above, stored-push}
 use Rattle.jbig2_region.proofs.WindowLemmas.{left-context, stretch-context}
 use Rattle.jbig2_region.specs.inner.RegionStates.{counted_decoder, counted_region}
+use Rattle.jbig2_region.specs.inner.Windows.{IsLeft, Shows}
 
 -- ---- a mask
 pub no-mask : (skip : Option Grid) (x y : ℕ) → skip ≡ None → IsMask skip x y 0

@@ -13,12 +13,13 @@ use Rattle.jbig2_base.proofs.WriteLemmas.{in_field, before_field, after_field, o
 use Rattle.jbig2_coder.specs.Coder.{Coder, Context, decision, fresh}
 use Rattle.jbig2_region.specs.Generic.{context_at}
 use Rattle.jbig2_region.specs.inner.RegionStates.{HasDecoded, region_state}
-use Rattle.jbig2_region.specs.inner.Neighbours.{DecodesPixels, IsLeft, row_coding, SameAbove}
+use Rattle.jbig2_region.specs.inner.Neighbours.{DecodesPixels, row_coding, SameAbove}
 use Rattle.jbig2_region.specs.Raster.{Region, so_far}
 use Rattle.jbig2_region.specs.inner.Rows.{after_pixels}
 use Rattle.jbig2_region.specs.declared.template.AdaptiveTemplatePixel.{AdaptiveTemplatePixel}
 use Rattle.jbig2_region.proofs.RasterLemmas.{HasDecoded-known, HasDecoded-decided, after_pixels-length, after_pixels-predicted, after_pixels-one, after_pixels-none, after_pixels-add}
 use Rattle.jbig2_region.proofs.WindowLemmas.{same-above, pixel-inside, pixel-left_of_all}
+use Rattle.jbig2_region.specs.inner.Windows.{IsLeft}
 
 -- a pixel after a store, at any place
 stored-at : (g : Grid) (x y n b i j : ℕ) → i < g.width → j < g.height → pixel_at (with_pixels g x y n b) i j ≡ cond (eqb j y && leb x i && ltb i (x + n)) (bit b (x + n - 1 - i)) (pixel_at g i j)

@@ -6,12 +6,13 @@ use Rattle.jbig2_base.specs.Grid.{Grid, pixel, pixel_at}
 use Rattle.jbig2_base.specs.Bits.{bit}
 use Rattle.jbig2_base.proofs.BitLemmas.{bit-above, bit-shl_high, bit-zero}
 use Rattle.jbig2_region.specs.Generic.{context_at}
-use Rattle.jbig2_region.specs.inner.Neighbours.{left_pixels, stretch_pixels, mixed_pixels, IsNear, IsWindow, SameAbove, Shows, IsLeft, stretch_bits}
+use Rattle.jbig2_region.specs.inner.Neighbours.{left_pixels, stretch_pixels, mixed_pixels, IsNear, SameAbove, stretch_bits}
 use Rattle.jbig2_region.specs.declared.template.layouts.Adaptives.{Adaptives}
 use Rattle.jbig2_region.specs.declared.template.neighbours.Neighbours.{Neighbours}
 use Rattle.jbig2_region.specs.declared.template.neighbours.Stretch.{Stretch}
 use Rattle.jbig2_region.specs.declared.generic_kernel.windows.Windows.{Windows}
 use Rattle.jbig2_region.proofs.ContextBits.{context-append, side-context, length-side}
+use Rattle.jbig2_region.specs.inner.Windows.{IsLeft, IsWindow, Shows}
 
 -- ---- pixels at whole numbers
 pub pixel-row_negative : (g : Grid) (X : ℤ) (m : ℕ) → pixel g X (negsuc m) ≡ false

@@ -1,5 +1,5 @@
 pub mod DecodedPixels
-pub mod GenericViews
+pub mod GenericHeaderViews
 pub mod Layouts
 pub mod LongRuns
 pub mod Masks
@@ -7,12 +7,13 @@ pub mod Neighbours
 pub mod NominalRows
 pub mod PixelArrays
 pub mod PushedPixels
-pub mod RefinedViews
+pub mod ReferenceViews
 pub mod RefinementBlocks
+pub mod RefinementHeaderViews
 pub mod RefinementLanes
-pub mod RefinementViews
 pub mod RefinementWindows
 pub mod RegionStates
 pub mod RegionViews
 pub mod RowCounts
 pub mod Rows
+pub mod Windows

@@ -9,7 +9,7 @@ ghost use Rattle.jbig2_region.specs.inner.RegionViews.{region_view};
 ghost use Rattle.jbig2_region.specs.GenericSteps.{CountsGeneric, price_of_region};
 ghost use Rattle.jbig2_region.specs.Steps.{region_made};
 ghost use Rattle.jbig2_region.specs.GenericHeader.{IsParsed};
-ghost use Rattle.jbig2_region.specs.inner.GenericViews.{header_view};
+ghost use Rattle.jbig2_region.specs.inner.GenericHeaderViews.{header_view};
 ghost use Rattle.jbig2_region.specs.WholeRows.{whole_generic_rows};
 
 pub mod header;

@@ -5,10 +5,11 @@ ghost use Rattle.jbig2_base.specs.Counts.{KeepsLanes};
 ghost use Rattle.jbig2_base.specs.Grid.{blank, max_side};
 ghost use Rattle.jbig2_coder.specs.Coder.{Coder, Context};
 ghost use Rattle.jbig2_region.specs.inner.RegionStates.{DecodesRegion, region_state, source_of};
-ghost use Rattle.jbig2_region.specs.inner.Neighbours.{DecodesPixels, IsLayout, is_nominal_layout, layout_coding, layout_count, layout_loads, layout_pixels};
+ghost use Rattle.jbig2_region.specs.inner.Neighbours.{DecodesPixels};
 ghost use Rattle.jbig2_region.specs.Raster.{decoded_region};
 ghost use Rattle.jbig2_region.specs.Steps.{CountsRegion, row_loads, row_tests, row_words};
 ghost use Rattle.jbig2_region.specs.inner.RowCounts.{CountsRow};
+ghost use Rattle.jbig2_region.specs.inner.Layouts.{is_nominal_layout, IsLayout, layout_coding, layout_count, layout_loads, layout_pixels};
 ghost use Rattle.jbig2_region.specs.declared.template.AdaptiveTemplatePixel.{AdaptiveTemplatePixel};
 
 mod bytes;

@@ -7,7 +7,7 @@ ghost use Rattle.jbig2_region.specs.inner.RegionViews.{region_view};
 ghost use Rattle.jbig2_region.specs.Refinement.{is_far, is_smaller, offset, refined_result, refined_contexts, refined_decoded};
 ghost use Rattle.jbig2_region.specs.Steps.{CountsRefined, region_made};
 ghost use Rattle.jbig2_region.specs.RefinementHeader.{IsRefinement};
-ghost use Rattle.jbig2_region.specs.inner.RefinedViews.{header_view};
+ghost use Rattle.jbig2_region.specs.inner.RefinementHeaderViews.{header_view};
 ghost use Rattle.jbig2_base.specs.Causes.{HasCause};
 ghost use Rattle.jbig2_region.specs.Causes.{BreaksOffset};
 

@@ -5,7 +5,7 @@ ghost use Rattle.jbig2_region.specs.Steps.{CountsDecided};
 ghost use Rattle.jbig2_region.specs.Generic.{number_of};
 ghost use Rattle.jbig2_region.specs.Steps.{refinement_loads};
 ghost use Rattle.jbig2_region.specs.inner.RegionStates.{DecodesRegion, IsReady, region_state, source_of};
-ghost use Rattle.jbig2_region.specs.inner.RefinementViews.{reference_view};
+ghost use Rattle.jbig2_region.specs.inner.ReferenceViews.{reference_view};
 ghost use Rattle.jbig2_region.specs.Refinement.{nine, common_colour, reference_pixel, refinement_coding};
 ghost use Rattle.jbig2_region.specs.RefinementTemplates.{refinement_bits};
 ghost use Rattle.jbig2_region.specs.inner.PixelArrays.{two_pixels};
@@ -145,7 +145,7 @@ impl<B: Allocator> RefinementCoding<'_, B> {
 impl<B: Allocator> PixelCoding for RefinementCoding<'_, B> {
     ghost use Rattle.jbig2_region.specs.Refinement.{refined_coding};
     ghost use Rattle.jbig2_region.specs.RefinementTemplates.{refinement_bits};
-    ghost use Rattle.jbig2_region.specs.inner.RefinementViews.{reference_view};
+    ghost use Rattle.jbig2_region.specs.inner.ReferenceViews.{reference_view};
 
     ghost coding = { λ c. refined_coding c.template c.typical c.in_reference.now c.in_region.now
         (reference_view c.reference.now) };

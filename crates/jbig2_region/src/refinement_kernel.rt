@@ -7,10 +7,10 @@ ghost use Rattle.jbig2_region.specs.Steps.{CountsDecided, window_loads};
 ghost use Rattle.jbig2_region.specs.RefinementTemplates.{refinement_bits};
 ghost use Rattle.jbig2_region.specs.inner.DecodedPixels.{DecodesPixels, TakesPixel};
 ghost use Rattle.jbig2_region.specs.inner.RegionStates.{DecodesRegion, IsReady, counted_decoder, counted_region, region_state, source_of};
-ghost use Rattle.jbig2_region.specs.inner.Neighbours.{IsLeft};
 ghost use Rattle.jbig2_region.specs.inner.RefinementBlocks.{MovesBlock};
-ghost use Rattle.jbig2_region.specs.inner.RefinementViews.{reference_view};
+ghost use Rattle.jbig2_region.specs.inner.ReferenceViews.{reference_view};
 ghost use Rattle.jbig2_region.specs.inner.RefinementWindows.{SeesRows, nine_of, three_of, windowed_coding};
+ghost use Rattle.jbig2_region.specs.inner.Windows.{IsLeft};
 
 mod lanes;
 mod windows;

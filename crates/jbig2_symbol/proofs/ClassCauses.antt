@@ -19,8 +19,8 @@ use Rattle.jbig2_mmr.specs.Causes.{BreaksMmr}
 use Rattle.jbig2_mmr.specs.T6.{mmr_rows}
 use Rattle.jbig2_mmr.proofs.Causes.{cause-mmr}
 use Rattle.jbig2_text.specs.TextCoding.{in_band}
-use Rattle.jbig2_symbol.specs.Causes.{BreaksCollectiveBitmap, BreaksEmptyClass, BreaksSized, BreaksTallClass}
-use Rattle.jbig2_symbol.specs.ClassCauses.{BreaksHeightClass, ClassCauses, ClassesHaveCauses, IsNoSize}
+use Rattle.jbig2_symbol.specs.Causes.{BreaksCollectiveBitmap, BreaksSized}
+use Rattle.jbig2_symbol.specs.ClassCauses.{BreaksEmptyClass, BreaksHeightClass, BreaksTallClass, ClassCauses, ClassesHaveCauses, IsNoSize}
 use Rattle.jbig2_symbol.specs.HeightClasses.{empty_class, height_class, size_in_word}
 use Rattle.jbig2_symbol.specs.SymbolBitmaps.{collective_bitmap, mmr_bitmap, raw_rows, raw_stride, rows_of_size}
 use Rattle.jbig2_symbol.specs.SymbolReading.{ClassReadings, SymbolInput, SymbolState, by_table, not_negative}

@@ -9,8 +9,8 @@ use Rattle.jbig2_base.specs.declared.error.DecodeError.{DecodeError}
 use Rattle.jbig2_base.proofs.Causes.{cause-next}
 use Rattle.jbig2_region.proofs.ResultCauses.{cause-more}
 use Rattle.jbig2_text.specs.TextCoding.{CodedState}
-use Rattle.jbig2_symbol.specs.Causes.{BreaksCodedAggregate, BreaksCollectiveBitmap, BreaksEmptyClass}
-use Rattle.jbig2_symbol.specs.ClassCauses.{BreaksCollectiveClass, BreaksDrawnClass, BreaksNextWidth, BreaksSymbolAfter, BreaksWidthAfter, ClassesHaveCauses, CodingsHaveCauses, SymbolCauses, SymbolsHaveCauses, Where, coded_class_causes, coded_symbol_causes, prefixed_class_causes, prefixed_symbol_causes}
+use Rattle.jbig2_symbol.specs.Causes.{BreaksCodedAggregate, BreaksCollectiveBitmap}
+use Rattle.jbig2_symbol.specs.ClassCauses.{BreaksCollectiveClass, BreaksDrawnClass, BreaksNextWidth, BreaksSymbolAfter, BreaksWidthAfter, ClassesHaveCauses, CodingsHaveCauses, SymbolCauses, SymbolsHaveCauses, Where, coded_class_causes, coded_symbol_causes, prefixed_class_causes, prefixed_symbol_causes, BreaksEmptyClass}
 use Rattle.jbig2_symbol.specs.HeightClasses.{drawn_class, empty_class, next_width, symbols_from, widths_from}
 use Rattle.jbig2_symbol.specs.SymbolBitmaps.{coded_aggregate, coded_symbol, collective_bitmap, fits_symbol, symbol_cut, symbols_cut}
 use Rattle.jbig2_symbol.specs.SymbolCoding.{classes_by_coder, classes_by_prefix_codes, coded_bitmap, collective_class, symbols_by_coder, symbols_by_prefix_codes}

@@ -29,7 +29,6 @@ use Rattle.jbig2_symbol.specs.SymbolBitmaps.{raw_stride}
 use Rattle.jbig2_symbol.specs.SymbolHeader.{SymbolHeader, max_new_symbols}
 use Rattle.jbig2_symbol.specs.SymbolReading.{BitmapContexts, SymbolInput, SymbolState}
 use Rattle.jbig2_symbol.specs.SymbolReading.{by_procedure, by_table, is_refinement_template, is_template}
-use Rattle.jbig2_symbol.specs.HeightClasses.{max_empty}
 use Rattle.jbig2_symbol.specs.declared.header.HuffmanTableSelection.{HuffmanTableSelection}
 use Rattle.jbig2_symbol.specs.declared.header.HuffmanTableSelection.TheVariants.{UserSupplied}
 use Rattle.jbig2_symbol.specs.declared.header.SymbolDictionaryFlags.{SymbolDictionaryFlags}
@@ -135,16 +134,6 @@ BreaksCollectiveBitmap d width height s e =
     BreaksValueAt d.tables.sizes s.coding e
     ⊎ After (by_table d.tables.sizes s) (λ (value, after_value).
     BreaksSized d.header.strict width height value (byte_boundary after_value.coding).bytes e)
-
--- A class that is too high for its symbols: its collective bitmap is refused, or else the first symbol cut from it.
-abbrev pub BreaksTallClass : SymbolInput → ℕ → ℕ → SymbolState Place → DecodeError → Type 0
-BreaksTallClass d width height s e =
-    BreaksCollectiveBitmap d width height s e ⊎ ((e ≡ errors.Overflow BitmapDimension) × (max_side < height))
-
--- A class without symbols (6.5.5, step 4), after 2^20 classes that had none.
-abbrev pub BreaksEmptyClass : ℕ → ℕ → DecodeError → Type 0
-BreaksEmptyClass count empty (errors.Symbol Invalid) = (count ≡ 0) × (max_empty ≤ empty)
-BreaksEmptyClass count empty _ = ⊥
 
 -- The codes of the ids are never crowded, so only memory can run out.
 abbrev pub BreaksIdCodes : SymbolHeader → ℕ → DecodeError → Type 0

@@ -5,7 +5,7 @@ use Rattle.std.specs.Prelude.{◌≡◌, ◌≢◌, ◌⊎◌, ◌≤◌, ◌<�
 use Rattle.std.specs.Prelude.{◌++◌, length, sum, Any, Option, Some, None, IfErr, ℤ, pos, negsuc, ◌+ℤ◌}
 use Rattle.jbig2_base.specs.Bits.{Place}
 use Rattle.jbig2_base.specs.Causes.{After, BreaksSides}
-use Rattle.jbig2_base.specs.Grid.{Grid, bit_number}
+use Rattle.jbig2_base.specs.Grid.{Grid, bit_number, max_side}
 use Rattle.jbig2_base.specs.declared.error.DecodeError.{DecodeError}
 use Rattle.jbig2_base.specs.declared.error.DecodeError.TheVariants.{Huffman, Overflow, Symbol}
 use Rattle.jbig2_base.specs.declared.error.HuffmanError.TheVariants.{InvalidCode}
@@ -14,7 +14,7 @@ use Rattle.jbig2_base.specs.declared.error.OverflowError.TheVariants.{BitmapDime
 use Rattle.jbig2_base.specs.declared.error.SymbolError.TheVariants.{Invalid, NoSymbols, OutOfRange, TooManySymbols}
 use Rattle.jbig2_base.specs.declared.error.SymbolError.TheVariants.{UnexpectedOob}
 use Rattle.jbig2_text.specs.TextCoding.{CodedState}
-use Rattle.jbig2_symbol.specs.Causes.{BreaksCodedAggregate, BreaksCollectiveBitmap, BreaksEmptyClass}
+use Rattle.jbig2_symbol.specs.Causes.{BreaksCodedAggregate, BreaksCollectiveBitmap}
 use Rattle.jbig2_symbol.specs.Causes.{BreaksPrefixedAggregate}
 use Rattle.jbig2_symbol.specs.HeightClasses.{max_empty, next_width, symbols_from, widths_from}
 use Rattle.jbig2_symbol.specs.SymbolCoding.{classes_by_coder, classes_by_prefix_codes, symbols_by_coder}
@@ -22,6 +22,7 @@ use Rattle.jbig2_symbol.specs.SymbolCoding.{symbols_by_prefix_codes}
 use Rattle.jbig2_symbol.specs.SymbolReading.{ClassReadings, SymbolInput, SymbolReadings, SymbolState}
 use Rattle.jbig2_symbol.specs.Symbols.{export_runs, exported_grids, next_run}
 use Rattle.jbig2_coder.specs.Causes.{BreaksValueAt}
+use Rattle.jbig2_base.specs.declared.error.DecodeError.TheVariants as errors
 
 abbrev pub Where : Bool → Type 0 → Type 0 → Type 0  -- the first of two, where this is so, and else the second
 Where true P Q = P
@@ -60,6 +61,16 @@ BreaksWidthBy room width total value e =
     ((e ≡ Symbol TooManySymbols) × (room ≡ 0) × (value ≢ None))
     ⊎ ((e ≡ Overflow BitmapDimension) × ((difference : ℤ) × (value ≡ Some difference)
     × (IsNoSize (pos width +ℤ difference) ⊎ IsNoSize (pos total +ℤ (pos width +ℤ difference)))))
+
+-- A class that is too high for its symbols: its collective bitmap is refused, or else the first symbol cut from it.
+abbrev pub BreaksTallClass : SymbolInput → ℕ → ℕ → SymbolState Place → DecodeError → Type 0
+BreaksTallClass d width height s e =
+    BreaksCollectiveBitmap d width height s e ⊎ ((e ≡ errors.Overflow BitmapDimension) × (max_side < height))
+
+-- A class without symbols (6.5.5, step 4), after 2^20 classes that had none.
+abbrev pub BreaksEmptyClass : ℕ → ℕ → DecodeError → Type 0
+BreaksEmptyClass count empty (errors.Symbol Invalid) = (count ≡ 0) × (max_empty ≤ empty)
+BreaksEmptyClass count empty _ = ⊥
 
 module _ {S : Type 0} (c : SymbolCauses S) (r : SymbolReadings S) (d : SymbolInput) where
   abbrev pub BreaksNextWidth : ℕ → ℕ → ℕ → S → DecodeError → Type 0

@@ -7,7 +7,7 @@ ghost use Rattle.jbig2_text.specs.TextCoding.{by_prefix_codes};
 ghost use Rattle.jbig2_text.specs.inner.TextViews as texts;
 ghost use Rattle.jbig2_steps.specs.Work.{Paid, PaidBut};
 ghost use Rattle.jbig2_text.specs.Paying.{number_steps};
-ghost use Rattle.jbig2_symbol.specs.Causes.{BreaksCollectiveBitmap, BreaksPrefixedAggregate, BreaksTallClass};
+ghost use Rattle.jbig2_symbol.specs.Causes.{BreaksCollectiveBitmap, BreaksPrefixedAggregate};
 ghost use Rattle.jbig2_symbol.specs.SymbolBitmaps.{by_instances, collective_bitmap, plain_id, prefixed_aggregate, prefixed_instances};
 ghost use Rattle.jbig2_symbol.specs.SymbolCoding.{collective_class, prefix_codes_start};
 ghost use Rattle.jbig2_symbol.specs.SymbolReading.{SymbolState, by_table};
@@ -15,6 +15,7 @@ ghost use Rattle.jbig2_symbol.specs.inner.ClassWork.{HasRoomForSymbols, PaidButC
 ghost use Rattle.jbig2_symbol.specs.inner.HeaderViews.{contexts_view};
 ghost use Rattle.jbig2_symbol.specs.inner.SymbolViews.{input_view, prefixed_view};
 ghost use Rattle.jbig2_symbol.specs.inner.FunctionResults.{concat, size_of_rows, tall_class};
+ghost use Rattle.jbig2_symbol.specs.ClassCauses.{BreaksTallClass};
 ghost use Rattle.jbig2_base.specs.Causes.{HasCauseOrNoMemory};
 
 use crate::aggregates::{aggregate_params, id_bits, instance_count, put_together, refine_alone};

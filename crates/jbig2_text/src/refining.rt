@@ -4,7 +4,7 @@ ghost use Rattle.jbig2_base.specs.Results.{Gives};
 ghost use Rattle.jbig2_base.specs.Grid.{blank, max_side};
 ghost use Rattle.jbig2_region.specs.RefinementTemplates.{refinement_bits};
 ghost use Rattle.jbig2_region.specs.inner.PixelArrays.{two_pixels, pixel_array};
-ghost use Rattle.jbig2_region.specs.inner.RefinementViews.{reference_view};
+ghost use Rattle.jbig2_region.specs.inner.ReferenceViews.{reference_view};
 ghost use Rattle.jbig2_steps.specs.Work.{paid_words, price_of_bitmap};
 ghost use Rattle.jbig2_text.specs.Paying.{PaidBeside};
 ghost use Rattle.jbig2_text.specs.Refining.{refined_with};

@@ -9,7 +9,7 @@
 ghost use Rattle.std.specs.Prelude.{◌≡◌, ℕ, ◌+◌, ◌-◌, ◌/◌, ◌%◌, ◌^◌, ◌<◌, ◌≤◌, pos, ◌-ℤ◌};
 ghost use Rattle.jbig2_base.specs.Grid.{Grid, pixel_at};
 ghost use Rattle.jbig2_region.specs.Generic.{context_at};
-ghost use Rattle.jbig2_region.specs.inner.Neighbours.{IsWindow};
+ghost use Rattle.jbig2_region.specs.inner.Windows.{IsWindow};
 ghost use Rattle.jbig2_writer.specs.inner.Windows.{IsNarrow, AreWindows, neighbour_pixels};
 
 use jbig2_base::bitmap::Bitmap;

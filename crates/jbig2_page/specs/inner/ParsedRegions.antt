@@ -22,8 +22,8 @@ use Rattle.jbig2_page.specs.declared.region.parsed_region.ParsedRegion.TheVarian
 use Rattle.jbig2_page.specs.declared.region.references.References.{References}
 use Rattle.jbig2_page.specs.inner.KeptViews.{kept_values}
 use Rattle.jbig2_page.specs.PassedOver.{nothing_passed}
-use Rattle.jbig2_region.specs.inner.GenericViews as generics
-use Rattle.jbig2_region.specs.inner.RefinedViews as refinements
+use Rattle.jbig2_region.specs.inner.GenericHeaderViews as generics
+use Rattle.jbig2_region.specs.inner.RefinementHeaderViews as refinements
 use Rattle.jbig2_halftone.specs.inner.HalftoneHeaderViews as halftones
 use Rattle.jbig2_text.specs.inner.TextViews as texts
 

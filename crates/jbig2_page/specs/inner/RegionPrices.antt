@@ -12,7 +12,7 @@ use Rattle.jbig2_page.specs.declared.region.parsed_region.ParsedRegion.{ParsedRe
 use Rattle.jbig2_page.specs.declared.region.parsed_region.ParsedRegion.TheVariants.{Text, Halftone, Generic}
 use Rattle.jbig2_page.specs.declared.region.parsed_region.ParsedRegion.TheVariants.{Refinement, PageRefinement, Part}
 use Rattle.jbig2_page.specs.inner.ParsedRegions.{info_of}
-use Rattle.jbig2_region.specs.inner.GenericViews as generics
+use Rattle.jbig2_region.specs.inner.GenericHeaderViews as generics
 use Rattle.jbig2_halftone.specs.inner.HalftoneHeaderViews as halftones
 
 -- of each symbol that a list has more

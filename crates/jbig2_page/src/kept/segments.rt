@@ -7,7 +7,7 @@ ghost use Rattle.jbig2_page.specs.Names.{symbol_dictionary_at, with_symbols, pat
 ghost use Rattle.jbig2_page.specs.inner.KeptViews.{patterns_view, kept_symbols_view};
 ghost use Rattle.jbig2_steps.specs.Work.{Paid, budget};
 ghost use Rattle.jbig2_halftone.specs.Steps.{price_of_patterns};
-ghost use Rattle.jbig2_halftone.specs.inner.PatternViews.{header_view};
+ghost use Rattle.jbig2_halftone.specs.inner.PatternHeaderViews.{header_view};
 
 use crate::kept::names::{KeptNames, Lookup};
 use crate::kept::referred::gather_referred;

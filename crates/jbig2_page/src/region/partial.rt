@@ -12,8 +12,8 @@ ghost use Rattle.jbig2_region.specs.WholeRows.{refined_part, whole_generic_rows}
 ghost use Rattle.jbig2_region.specs.inner.RegionViews.{region_view};
 ghost use Rattle.jbig2_steps.specs.Work.{Paid};
 ghost use Rattle.jbig2_halftone.specs.inner.HalftoneHeaderViews as halftones;
-ghost use Rattle.jbig2_region.specs.inner.GenericViews as generics;
-ghost use Rattle.jbig2_region.specs.inner.RefinedViews as refinements;
+ghost use Rattle.jbig2_region.specs.inner.GenericHeaderViews as generics;
+ghost use Rattle.jbig2_region.specs.inner.RefinementHeaderViews as refinements;
 ghost use Rattle.jbig2_text.specs.inner.TextViews as texts;
 
 use crate::kept::referred::ReferredSegments;

@@ -7,7 +7,7 @@ ghost use Rattle.jbig2_region.specs.inner.RegionViews.{region_view};
 ghost use Rattle.jbig2_region.specs.Refinement.{refined_decoded};
 ghost use Rattle.jbig2_region.specs.WholeRows.{refined_part};
 ghost use Rattle.jbig2_region.specs.RefinementHeader.{IsRefinement};
-ghost use Rattle.jbig2_region.specs.inner.RefinedViews.{header_view};
+ghost use Rattle.jbig2_region.specs.inner.RefinementHeaderViews.{header_view};
 ghost use Rattle.jbig2_page.specs.Names.{first_kept};
 ghost use Rattle.jbig2_page.specs.Regions.{page_area, referred_region, refinement_at};
 ghost use Rattle.jbig2_page.specs.inner.KeptViews.{found_value, kept_values};

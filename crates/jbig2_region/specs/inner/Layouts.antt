@@ -1,7 +1,10 @@
 -- The templates of generic regions by their neighbours (our own rule).
-use Rattle.std.specs.Prelude.{ℕ, ◌≡◌, false, List}
-use Rattle.jbig2_region.specs.inner.Neighbours.{IsMixed, adaptive_count, mixed_count, mixed_pixels}
+use Rattle.std.specs.Prelude.{ℕ, ◌≡◌, false, List, Bool, true, Option, Some, None}
+use Rattle.jbig2_region.specs.inner.Neighbours.{IsMixed, adaptive_count, mixed_count, mixed_pixels, IsNear, neighbour_count, optional_pixels}
 use Rattle.jbig2_region.specs.Templates.{adaptive_pixel_count, context_bits, template_pixels}
+use Rattle.jbig2_region.specs.Generic.{context_at, known_colour}
+use Rattle.jbig2_region.specs.Raster.{Coding}
+use Rattle.jbig2_region.specs.declared.template.layouts.Layout.{Layout}
 use Rattle.jbig2_region.specs.declared.template.layouts.Adaptives.{Adaptives}
 use Rattle.jbig2_region.specs.declared.template.neighbours.Neighbours.{Neighbours}
 use Rattle.jbig2_region.specs.declared.template.AdaptiveTemplatePixel.{AdaptiveTemplatePixel}
@@ -34,3 +37,27 @@ pub record FitsAdaptives (template : Template) (a : List AdaptiveTemplatePixel) 
   pub mixed : IsMixed (fixed_neighbours template) r
   pub count : mixed_count (fixed_neighbours template) r ≡ context_bits template
   pub loads : adaptive_count r ≡ adaptive_pixel_count false false template
+
+abbrev pub layout_pixels : Layout → List AdaptiveTemplatePixel
+layout_pixels l = optional_pixels l.neighbours l.adaptive
+
+abbrev pub layout_count : Neighbours → Option Adaptives → ℕ
+layout_count n None = neighbour_count n
+layout_count n (Some a) = mixed_count n a
+
+abbrev pub layout_loads : Option Adaptives → ℕ
+layout_loads None = 0
+layout_loads (Some a) = adaptive_count a
+
+abbrev pub IsLayout : Neighbours → Option Adaptives → Type 0
+IsLayout n None = IsNear n
+IsLayout n (Some a) = IsMixed n a
+
+-- whether there are run bytes: only without adaptive pixels
+abbrev pub is_nominal_layout : Option Adaptives → Bool
+is_nominal_layout None = true
+is_nominal_layout (Some a) = false
+
+abbrev pub layout_coding : Layout → Option ℕ → Coding
+layout_coding l row_context =
+    record { context = context_at (layout_pixels l); known = known_colour None; row_context = row_context }

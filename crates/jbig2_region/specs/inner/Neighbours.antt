@@ -1,19 +1,15 @@
 -- Templates of generic regions as neighbours that lie side by side, with adaptive pixels between them (our own rule).
 use Rattle.std.specs.Prelude.{◌≡◌, ◌==◌, ℕ, zero, suc, ◌+◌, ◌-◌, ◌*◌, ◌/◌, ◌%◌, ◌^◌, ◌<◌, ◌≤◌, ℤ, pos, negsuc, ◌-ℤ◌}
-use Rattle.std.specs.Prelude.{List, [], ◌∷◌, ◌++◌, length, Bool, true, false, ◌&&◌, if◌then◌else◌, Option, Some, None}
-use Rattle.std.specs.Prelude.{min}
-use Rattle.jbig2_base.specs.Grid.{Grid, pixel, pixel_at}
-use Rattle.jbig2_base.specs.Bits.{bit}
+use Rattle.std.specs.Prelude.{List, [], ◌∷◌, ◌++◌, length, Bool, true, ◌&&◌, if◌then◌else◌, Option, Some, None}
+use Rattle.jbig2_base.specs.Grid.{Grid, pixel_at}
 use Rattle.jbig2_region.specs.Generic.{context_at, known_colour}
 use Rattle.jbig2_region.specs.inner.RegionStates.{HasDecoded, RegionState}
 use Rattle.jbig2_region.specs.inner.Rows.{after_pixels}
 use Rattle.jbig2_region.specs.Raster.{Coding, Region}
 use Rattle.jbig2_region.specs.declared.template.layouts.Adaptives.{Adaptives}
-use Rattle.jbig2_region.specs.declared.template.layouts.Layout.{Layout}
 use Rattle.jbig2_region.specs.declared.template.neighbours.Neighbours.{Neighbours}
 use Rattle.jbig2_region.specs.declared.template.neighbours.Stretch.{Stretch}
 use Rattle.jbig2_region.specs.declared.template.AdaptiveTemplatePixel.{AdaptiveTemplatePixel}
-use Rattle.jbig2_region.specs.declared.generic_kernel.windows.WideWindows.{WideWindows}
 use Rattle.jbig2_region.specs.declared.generic_kernel.windows.Windows.{Windows}
 
 -- this many pixels in the row this many rows up, the rightmost first
@@ -41,9 +37,6 @@ module _ (n : Neighbours) where
   optional_pixels None = nominal_pixels
   optional_pixels (Some a) = mixed_pixels a
 
-abbrev pub layout_pixels : Layout → List AdaptiveTemplatePixel
-layout_pixels l = optional_pixels l.neighbours l.adaptive
-
 abbrev pub neighbour_count : Neighbours → ℕ
 neighbour_count n = n.left + (n.above.count + n.top.count)
 
@@ -57,53 +50,9 @@ pub record IsNear (n : Neighbours) : Type 0 where
   pub top_count : n.top.count ≤ 7
   pub few : neighbour_count n ≤ 16
 
-module _ (g : Grid) (x : ℕ) where
-  -- A window on a row around column x: bit 55 is the pixel at x, and pixels to the right of it are in lower bits. It
-  -- shows this many columns, the first of them eight left of x.
-  abbrev pub IsWindow : ℤ → ℕ → ℕ → Type 0
-  IsWindow row seen word = (k : ℕ) → k < seen → bit word (63 - k) ≡ pixel g (pos (x + k) -ℤ pos 8) row
-
-  -- a word whose lowest eight bits are the pixels of a row left of column x
-  abbrev pub IsBefore : ℤ → ℕ → Type 0
-  IsBefore row word = (k : ℕ) → k < 8 → bit word (7 - k) ≡ pixel g (pos (x + k) -ℤ pos 8) row
-
-  -- windows, and such words, on the two rows above row y
-  module _ (y : ℕ) where
-    pub record Shows (seen : ℕ) (w : Windows) : Type 0 where
-      pub above : IsWindow (pos y -ℤ pos 1) seen w.above
-      pub top : IsWindow (pos y -ℤ pos 2) seen w.top
-
-    pub record ShowsBefore (w : Windows) : Type 0 where
-      pub above : IsBefore (pos y -ℤ pos 1) w.above
-      pub top : IsBefore (pos y -ℤ pos 2) w.top
-
-module _ (g : Grid) (x y : ℕ) where
-  -- Windows around column x that serve this many bytes, at most eight. The second is needed only for more than four.
-  pub record ShowsGroup (bytes : ℕ) (w : WideWindows) : Type 0 where
-    pub first : Shows g x y 64 w.first
-    pub second : 5 ≤ bytes → Shows g (x + 32) y 64 w.second
-
-  -- the windows at byte `done` of a group; the second ones stay the same
-  pub record ShowsByte (done : ℕ) (group w : WideWindows) : Type 0 where
-    pub first : Shows g (x + 8 * done) y (64 - 8 * (done % 4)) w.first
-    pub second : w.second ≡ group.second
-
-  -- windows around column x, with the pixels by which a run of `most` bytes is tested
-  pub record ShowsRun (most : ℕ) (w : WideWindows) : Type 0 where
-    pub first : Shows g x y (8 * min most 4 + 12) w.first
-    pub second : 5 ≤ most → Shows g (x + 32) y 44 w.second
-
--- a byte's windows, whenever the group's windows serve this many bytes
-abbrev pub AreAtByte : ℕ → ℕ → WideWindows → WideWindows → Type 0
-AreAtByte bytes done group w = (g : Grid) (x y : ℕ) → ShowsGroup g x y bytes group → ShowsByte g x y done group w
-
 -- the same pixels in all rows above row y
 abbrev pub SameAbove : Grid → Grid → ℕ → Type 0
 SameAbove g g' y = (i j : ℕ) → j < y → pixel_at g i j ≡ pixel_at g' i j
-
--- the four pixels left of column x, the nearest in bit 0
-abbrev pub IsLeft : Grid → ℕ → ℕ → ℕ → Type 0
-IsLeft g x y left = (k : ℕ) → k < 4 → bit left k ≡ pixel g (pos x -ℤ pos (k + 1)) (pos y)
 
 -- how the pixels of a row are coded
 abbrev pub row_coding : List AdaptiveTemplatePixel → Coding
@@ -160,24 +109,3 @@ mixed_count n a =
 pub record IsMixed (n : Neighbours) (a : Adaptives) : Type 0 where
   pub near : IsNear n
   pub few : mixed_count n a ≤ 16
-
-abbrev pub layout_count : Neighbours → Option Adaptives → ℕ
-layout_count n None = neighbour_count n
-layout_count n (Some a) = mixed_count n a
-
-abbrev pub layout_loads : Option Adaptives → ℕ
-layout_loads None = 0
-layout_loads (Some a) = adaptive_count a
-
-abbrev pub IsLayout : Neighbours → Option Adaptives → Type 0
-IsLayout n None = IsNear n
-IsLayout n (Some a) = IsMixed n a
-
--- whether there are run bytes: only without adaptive pixels
-abbrev pub is_nominal_layout : Option Adaptives → Bool
-is_nominal_layout None = true
-is_nominal_layout (Some a) = false
-
-abbrev pub layout_coding : Layout → Option ℕ → Coding
-layout_coding l row_context =
-    record { context = context_at (layout_pixels l); known = known_colour None; row_context = row_context }

@@ -2,9 +2,10 @@
 use Rattle.std.specs.Prelude.{◌≡◌, ℕ, ◌+◌, ◌*◌, ◌%◌, ◌<◌, ◌≤◌, false}
 use Rattle.jbig2_base.specs.Grid.{Grid}
 use Rattle.jbig2_base.specs.Writes.{with_pixels}
-use Rattle.jbig2_region.specs.inner.Neighbours.{DecodesPixels, IsLeft, Shows, ShowsGroup, ShowsRun, nominal_pixels}
+use Rattle.jbig2_region.specs.inner.Neighbours.{DecodesPixels, nominal_pixels}
 use Rattle.jbig2_region.specs.inner.RegionStates.{DecoderState, region_with}
 use Rattle.jbig2_region.specs.inner.RowCounts.{CountsRuns}
+use Rattle.jbig2_region.specs.inner.Windows.{IsLeft, Shows, ShowsGroup, ShowsRun}
 use Rattle.jbig2_region.specs.declared.generic_kernel.windows.WideWindows.{WideWindows}
 use Rattle.jbig2_region.specs.declared.generic_kernel.windows.Windows.{Windows}
 use Rattle.jbig2_region.specs.declared.template.neighbours.Neighbours.{Neighbours}

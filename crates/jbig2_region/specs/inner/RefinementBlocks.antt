@@ -5,9 +5,9 @@ use Rattle.jbig2_base.specs.Writes.{with_pixels}
 use Rattle.jbig2_region.specs.Raster.{Coding}
 use Rattle.jbig2_region.specs.Refinement.{Reference, refinement_coding}
 use Rattle.jbig2_region.specs.inner.DecodedPixels.{DecodesPart, CountsPart}
-use Rattle.jbig2_region.specs.inner.Neighbours.{IsLeft}
 use Rattle.jbig2_region.specs.inner.RegionStates.{CountedDecoder, CountedRegion, region_state, without_counts}
 use Rattle.jbig2_region.specs.inner.RefinementWindows.{SeesRows, corners, known_of, nine_of}
+use Rattle.jbig2_region.specs.inner.Windows.{IsLeft}
 use Rattle.jbig2_region.specs.declared.refinement_kernel.windows.RefinementWindows.{RefinementWindows}
 use Rattle.jbig2_region.specs.declared.template.RefinementTemplate.{RefinementTemplate}
 

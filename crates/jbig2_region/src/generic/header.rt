@@ -3,7 +3,7 @@ ghost use Rattle.std.specs.Prelude.{IfOk};
 ghost use Rattle.jbig2_base.specs.Results.{Returns};
 ghost use Rattle.jbig2_base.specs.Fields.{Parses};
 ghost use Rattle.jbig2_region.specs.GenericHeader.{rows_at, generic_header_at, IsParsed};
-ghost use Rattle.jbig2_region.specs.inner.GenericViews.{header_view};
+ghost use Rattle.jbig2_region.specs.inner.GenericHeaderViews.{header_view};
 ghost use Rattle.jbig2_region.specs.inner.PixelArrays.{IsFilled};
 ghost use Rattle.jbig2_base.specs.Causes.{HasCause};
 ghost use Rattle.jbig2_region.specs.Causes.{BreaksGenericHeader, BreaksRowCount};

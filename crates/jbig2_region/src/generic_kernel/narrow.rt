@@ -9,7 +9,8 @@ ghost use Rattle.jbig2_region.specs.Templates.{template_of};
 ghost use Rattle.jbig2_region.specs.inner.Layouts.{nominal_neighbours};
 ghost use Rattle.jbig2_region.specs.inner.NominalRows.{CountsNarrow, FitsNarrow};
 ghost use Rattle.jbig2_region.specs.inner.PushedPixels.{CountsByte, CountsRowPixels, PushesPixels, PushesRow};
-ghost use Rattle.jbig2_region.specs.inner.Neighbours.{IsNear, SameAbove, Shows, neighbour_count, nominal_pixels, row_coding};
+ghost use Rattle.jbig2_region.specs.inner.Neighbours.{IsNear, SameAbove, neighbour_count, nominal_pixels, row_coding};
+ghost use Rattle.jbig2_region.specs.inner.Windows.{Shows};
 
 use crate::generic_kernel::bytes::{push_bytes, push_pixels};
 use crate::generic_kernel::constant_templates::by_template;

@@ -3,8 +3,9 @@ ghost use Rattle.std.specs.Prelude.{◌≡◌, ℕ, ◌+◌, ◌-◌, ◌*◌, �
 ghost use Rattle.jbig2_base.specs.Grid.{max_side};
 ghost use Rattle.jbig2_base.specs.Counts.{KeepsLanes};
 ghost use Rattle.jbig2_region.specs.Generic.{context_at};
-ghost use Rattle.jbig2_region.specs.inner.Neighbours.{DecodesPixels, IsLeft, IsMixed, Shows, adaptive_count, mixed_count, mixed_pixels};
+ghost use Rattle.jbig2_region.specs.inner.Neighbours.{DecodesPixels, IsMixed, adaptive_count, mixed_count, mixed_pixels};
 ghost use Rattle.jbig2_region.specs.inner.RegionStates.{region_state};
+ghost use Rattle.jbig2_region.specs.inner.Windows.{IsLeft, Shows};
 
 use crate::generic_coding::context_at;
 use crate::generic_kernel::windows::{Place, Windows, stretch_bits, windows_at};

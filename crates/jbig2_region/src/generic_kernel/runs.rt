@@ -5,9 +5,10 @@ ghost use Rattle.jbig2_coder.specs.Coder.{fresh};
 ghost use Rattle.jbig2_coder.specs.QeTable.{qe_row};
 ghost use Rattle.jbig2_region.specs.inner.RegionStates.{HasDecoded, region_state};
 ghost use Rattle.jbig2_region.specs.inner.LongRuns.{is_run_for};
-ghost use Rattle.jbig2_region.specs.inner.Neighbours.{IsLeft, IsNear, ShowsRun, is_field, neighbour_count, neighbours_stay, nominal_pixels, stretch_stays, stretches_stay};
+ghost use Rattle.jbig2_region.specs.inner.Neighbours.{IsNear, is_field, neighbour_count, neighbours_stay, nominal_pixels, stretch_stays, stretches_stay};
 ghost use Rattle.jbig2_region.specs.Raster.{Region};
 ghost use Rattle.jbig2_region.specs.Steps.{all_of, is_run_of};
+ghost use Rattle.jbig2_region.specs.inner.Windows.{IsLeft, ShowsRun};
 
 use crate::generic_kernel::windows::{WideWindows, Windows};
 use crate::template::neighbours::{Neighbours, Stretch};

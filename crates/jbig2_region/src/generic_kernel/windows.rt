@@ -9,7 +9,8 @@
 //!
 //! A stretch takes `count` bits from bit 55 - `reach` up: columns x + reach - count + 1 to x + reach.
 ghost use Rattle.std.specs.Prelude.{◌≡◌, ℕ, ◌+◌, ◌-◌, ◌%◌, ◌^◌, ◌<◌, ◌≤◌, pos, ◌-ℤ◌};
-ghost use Rattle.jbig2_region.specs.inner.Neighbours.{IsWindow, Shows, stretch_bits};
+ghost use Rattle.jbig2_region.specs.inner.Neighbours.{stretch_bits};
+ghost use Rattle.jbig2_region.specs.inner.Windows.{IsWindow, Shows};
 ghost use Rattle.jbig2_base.specs.Grid.{Grid, pixel};
 ghost use Rattle.jbig2_base.specs.Bits.{bit};
 

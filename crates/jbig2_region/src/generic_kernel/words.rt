@@ -1,6 +1,6 @@
 //! The words of the two rows above, for rows that are decoded eight bytes at a time, and the windows between them.
 ghost use Rattle.std.specs.Prelude.{◌≡◌, ℕ, ◌+◌, ◌-◌, ◌*◌, ◌/◌, ◌%◌, ◌^◌, ◌<◌, ◌≤◌, bit_or};
-ghost use Rattle.jbig2_region.specs.inner.Neighbours.{Shows, ShowsBefore, ShowsGroup, AreAtByte};
+ghost use Rattle.jbig2_region.specs.inner.Windows.{AreAtByte, Shows, ShowsBefore, ShowsGroup};
 ghost use Rattle.jbig2_base.specs.Grid.{Grid};
 
 use crate::generic_kernel::windows::{WideWindows, Windows, pixels_above};

@@ -2,7 +2,7 @@
 ghost use Rattle.std.specs.Prelude.{◌≡◌, IfOk};
 ghost use Rattle.jbig2_base.specs.Fields.{Parses};
 ghost use Rattle.jbig2_region.specs.RefinementHeader.{IsRefinement, refinement_header_at};
-ghost use Rattle.jbig2_region.specs.inner.RefinedViews.{header_view};
+ghost use Rattle.jbig2_region.specs.inner.RefinementHeaderViews.{header_view};
 ghost use Rattle.jbig2_region.specs.inner.PixelArrays.{pixel_array};
 ghost use Rattle.jbig2_base.specs.Causes.{HasCause};
 ghost use Rattle.jbig2_region.specs.Causes.{BreaksRefinementHeader};

@@ -5,7 +5,7 @@ ghost use Rattle.jbig2_base.specs.Results.{Gives};
 ghost use Rattle.jbig2_region.specs.Refinement.{offset};
 ghost use Rattle.jbig2_region.specs.RefinementHeader.{IsRefinement};
 ghost use Rattle.jbig2_region.specs.WholeRows.{refined_part, whole_refined_rows};
-ghost use Rattle.jbig2_region.specs.inner.RefinedViews.{header_view};
+ghost use Rattle.jbig2_region.specs.inner.RefinementHeaderViews.{header_view};
 ghost use Rattle.jbig2_region.specs.inner.RegionViews.{region_view};
 
 use crate::decoded_region::DecodedRegion;

@@ -1,8 +1,7 @@
 //! The templates of generic regions (T.88, 6.2.5.3), by their neighbours.
 ghost use Rattle.std.specs.Prelude.{◌≡◌, [], ◌∷◌, false};
 ghost use Rattle.jbig2_region.specs.GenericSteps.{read_pixels};
-ghost use Rattle.jbig2_region.specs.inner.Layouts.{FitsAdaptives, fixed_neighbours, neighbours_of, nominal_neighbours};
-ghost use Rattle.jbig2_region.specs.inner.Neighbours.{IsLayout, is_nominal_layout, layout_count, layout_loads, layout_pixels};
+ghost use Rattle.jbig2_region.specs.inner.Layouts.{FitsAdaptives, fixed_neighbours, is_nominal_layout, IsLayout, layout_count, layout_loads, layout_pixels, neighbours_of, nominal_neighbours};
 ghost use Rattle.jbig2_region.specs.Templates.{adaptive, adaptive_pixel_count, context_bits, is_nominal, lies_at, template_pixels};
 ghost use Rattle.jbig2_region.specs.inner.PixelArrays.{four_pixels};
 

@@ -2,7 +2,8 @@
 use Rattle.std.specs.Prelude.{ℕ, ◌+◌, ◌≤◌, pos, negsuc, ◌-ℤ◌, List, ◌++◌}
 use Rattle.jbig2_base.specs.Grid.{Grid}
 use Rattle.jbig2_coder.specs.Encoder.{CodingInContexts, HasCoded}
-use Rattle.jbig2_region.specs.inner.Neighbours.{IsWindow, side_by_side}
+use Rattle.jbig2_region.specs.inner.Neighbours.{side_by_side}
+use Rattle.jbig2_region.specs.inner.Windows.{IsWindow}
 use Rattle.jbig2_region.specs.declared.template.AdaptiveTemplatePixel.{AdaptiveTemplatePixel}
 use Rattle.jbig2_region.specs.declared.template.neighbours.Neighbours.{Neighbours}
 use Rattle.jbig2_inverses.specs.CoderStates.{Entry}

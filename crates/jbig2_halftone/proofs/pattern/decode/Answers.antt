@@ -1,5 +1,5 @@
 use Rattle.std.proofs.Common.{rules, ◌≡◌, ◌+◌, ◌≤◌, length, arith}
-use Rattle.jbig2_halftone.specs.inner.PatternViews.{header_view}
+use Rattle.jbig2_halftone.specs.inner.PatternHeaderViews.{header_view}
 use Rattle.jbig2_halftone.specs.Patterns.{patterns_decoded}
 use Rattle.jbig2_halftone.proofs.CausesOfRegions.{pattern_cause}
 use Rattle.jbig2_halftone.proofs.DrawSteps.{on-any}

@@ -4,7 +4,7 @@ use Rattle.jbig2_base.proofs.MadeLemmas.{made-counted, made-paid, words-same}
 use Rattle.jbig2_base.proofs.Prices.{price-same}
 use Rattle.jbig2_halftone.specs.Patterns.{collective_header}
 use Rattle.jbig2_halftone.specs.Steps.{collective_made}
-use Rattle.jbig2_halftone.specs.inner.PatternViews.{header_view}
+use Rattle.jbig2_halftone.specs.inner.PatternHeaderViews.{header_view}
 use Rattle.jbig2_halftone.proofs.PatternLemmas.{refused-lanes}
 use Rattle.jbig2_halftone.proofs.pattern.decode_collective.Goals as goal
 

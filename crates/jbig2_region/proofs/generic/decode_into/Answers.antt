@@ -1,6 +1,6 @@
 use Rattle.jbig2_steps.proofs.WorkLemmas.{room-paid}
 use Rattle.std.proofs.Common.{◌≡◌, ℕ, ◌+◌, ◌*◌, Bool, List, Result, sym, ap, ◌∙◌, length, drop, arith}
-use Rattle.jbig2_region.specs.inner.GenericViews.{header_view}
+use Rattle.jbig2_region.specs.inner.GenericHeaderViews.{header_view}
 use Rattle.jbig2_region.specs.Generic.{coding_of, generic_region}
 use Rattle.jbig2_region.specs.inner.RegionStates.{DecodesRegion, HasDecoded, region_state}
 use Rattle.jbig2_region.specs.GenericSteps.{CountsCoded}

@@ -2,7 +2,7 @@ use Rattle.std.proofs.Common.{arith, refl, ◌≡◌, ◌≤◌, ◌+◌, ◌*�
 use Rattle.jbig2_base.proofs.LaneCounts.{lanes-none, lanes-then}
 use Rattle.jbig2_base.specs.Counts.{Counts}
 use Rattle.jbig2_region.specs.inner.RegionStates.{HasDecoded, region_state}
-use Rattle.jbig2_region.specs.inner.Neighbours.{DecodesPixels, is_nominal_layout, layout_coding, layout_loads, layout_pixels}
+use Rattle.jbig2_region.specs.inner.Neighbours.{DecodesPixels}
 use Rattle.jbig2_region.specs.Raster.{Region, no_pixels}
 use Rattle.jbig2_region.specs.inner.Rows.{after_rows}
 use Rattle.jbig2_region.specs.Steps.{row_loads, row_tests, row_words}
@@ -10,6 +10,7 @@ use Rattle.jbig2_region.specs.inner.RowCounts.{coded_rows}
 use Rattle.jbig2_region.proofs.PlaceLemmas.{region-empty, region-whole}
 use Rattle.jbig2_region.proofs.RasterLemmas.{after_rows-none, region-start}
 use Rattle.jbig2_region.proofs.RegionLemmas.{counted-none, counted-next, predicted-next, loads-next, tests-next, layout-step, empty-counts, region-counts}
+use Rattle.jbig2_region.specs.inner.Layouts.{is_nominal_layout, layout_coding, layout_loads, layout_pixels}
 use Rattle.jbig2_region.proofs.generic_kernel.decode_layout.Goals as goal
 
 pub returns-then-width-eq0-clause-region : goal.returns-then-width-eq0-clause-region

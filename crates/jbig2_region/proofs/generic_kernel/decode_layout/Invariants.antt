@@ -1,12 +1,12 @@
 use Rattle.std.proofs.Common.{◌≡◌, ◌≤◌, ◌+◌, ◌*◌}
 use Rattle.jbig2_base.specs.Counts.{KeepsLanes}
 use Rattle.jbig2_region.specs.inner.RegionStates.{HasDecoded, region_state}
-use Rattle.jbig2_region.specs.inner.Neighbours.{is_nominal_layout, layout_coding, layout_loads, layout_pixels}
 use Rattle.jbig2_region.specs.Raster.{no_pixels}
 use Rattle.jbig2_region.specs.inner.Rows.{after_rows}
 use Rattle.jbig2_region.specs.Steps.{row_loads, row_tests, row_words}
 use Rattle.jbig2_region.specs.inner.RowCounts.{coded_rows}
 use Rattle.jbig2_region.proofs.RegionLemmas.{Counted}
+use Rattle.jbig2_region.specs.inner.Layouts.{is_nominal_layout, layout_coding, layout_loads, layout_pixels}
 use Rattle.jbig2_region.proofs.generic_kernel.decode_layout.Given as goal
 
 abbrev pub invariant-loop-y : goal.invariant-loop-y

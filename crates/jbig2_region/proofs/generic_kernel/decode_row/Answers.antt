@@ -1,8 +1,9 @@
 use Rattle.std.proofs.Common.{rules, ◌≡◌, Bool, None, sym, subst}
-use Rattle.jbig2_region.specs.inner.Neighbours.{DecodesPixels, layout_pixels}
+use Rattle.jbig2_region.specs.inner.Neighbours.{DecodesPixels}
 use Rattle.jbig2_region.proofs.CountLemmas.{row-nominal, row-mixed}
 use Rattle.jbig2_region.proofs.generic_kernel.decode_row.Goals as goal
 use Rattle.jbig2_region.specs.inner.RegionStates.{region_state}
+use Rattle.jbig2_region.specs.inner.Layouts.{layout_pixels}
 
 pub returns-then-predicted-clause-pixels : goal.returns-then-predicted-clause-pixels
 returns-then-predicted-clause-pixels g c =

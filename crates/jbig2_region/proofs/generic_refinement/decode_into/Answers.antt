@@ -2,7 +2,7 @@ use Rattle.jbig2_steps.proofs.WorkLemmas.{room-paid}
 use Rattle.std.proofs.Common.{rules, ◌≡◌, ℕ, sym, ap, ◌∙◌, length, drop, to_z, of_z, w32, arith}
 use Rattle.std.proofs.lemmas.Int.{to_z-of_z}
 use mir.Val.{SFits}
-use Rattle.jbig2_region.specs.inner.RefinedViews.{header_view}
+use Rattle.jbig2_region.specs.inner.RefinementHeaderViews.{header_view}
 use Rattle.jbig2_region.specs.Refinement.{refined_region}
 use Rattle.jbig2_region.specs.RefinementTemplates.{refinement_bits}
 use Rattle.jbig2_region.specs.inner.RegionViews.{region_view}

@@ -4,7 +4,7 @@ use Rattle.jbig2_base.specs.Grid.{Grid, pixel_at}
 use Rattle.jbig2_base.specs.Bits.{bit}
 use Rattle.jbig2_region.specs.inner.DecodedPixels.{CountsPart, rest_of, TakesPixel}
 use Rattle.jbig2_region.specs.inner.RefinementBlocks.{Block}
-use Rattle.jbig2_region.specs.inner.RefinementViews.{reference_view}
+use Rattle.jbig2_region.specs.inner.ReferenceViews.{reference_view}
 use Rattle.jbig2_region.specs.inner.RefinementWindows.{context_made, known_of, nine_of, three_of, windowed_coding}
 use Rattle.jbig2_region.proofs.RefinementKernelLemmas.{block-next, block-none, block-whole}
 use Rattle.jbig2_region.proofs.RefinementKnownLemmas.{copied-known, decided-unknown}

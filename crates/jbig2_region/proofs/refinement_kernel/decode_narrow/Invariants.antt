@@ -1,5 +1,5 @@
 use Rattle.std.proofs.Common.{◌≤◌, ◌+◌, ◌*◌}
-use Rattle.jbig2_region.specs.inner.RefinementViews.{reference_view}
+use Rattle.jbig2_region.specs.inner.ReferenceViews.{reference_view}
 use Rattle.jbig2_region.specs.inner.RefinementWindows.{SeesRows, windowed_coding}
 use Rattle.jbig2_region.proofs.StretchLemmas.{RowsDecoded}
 use Rattle.jbig2_region.proofs.refinement_kernel.decode_narrow.Given as goal

@@ -1,10 +1,10 @@
 use Rattle.std.proofs.Common.{arith, min, subst, ap, ◌≡◌, ◌+◌, ◌*◌, ◌%◌, ℕ}
 use Rattle.jbig2_base.specs.Counts.{Counts}
-use Rattle.jbig2_region.specs.inner.Neighbours.{IsLeft}
 use Rattle.jbig2_region.specs.inner.RefinementWindows.{windowed_coding}
 use Rattle.jbig2_region.proofs.StoreLemmas.{left-none}
 use Rattle.jbig2_region.proofs.StretchLemmas.{pixels-none, pixels-since, pixels-then}
 use Rattle.jbig2_region.specs.inner.DecodedPixels.{rest_of}
+use Rattle.jbig2_region.specs.inner.Windows.{IsLeft}
 use Rattle.jbig2_region.proofs.refinement_kernel.decode_row.Goals as goal
 
 pub loop-index-init : goal.loop-index-init

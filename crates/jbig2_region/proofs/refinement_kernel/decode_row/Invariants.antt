@@ -1,9 +1,9 @@
 use Rattle.std.proofs.Common.{◌≡◌, ◌+◌, ◌*◌, ◌<◌, min}
-use Rattle.jbig2_region.specs.inner.Neighbours.{IsLeft}
 use Rattle.jbig2_region.specs.inner.RefinementWindows.{windowed_coding}
 use Rattle.jbig2_region.proofs.refinement_kernel.decode_row.Given as goal
 use Rattle.jbig2_region.specs.inner.RegionStates.{counted_region}
 use Rattle.jbig2_region.specs.inner.DecodedPixels.{DecodesPixels}
+use Rattle.jbig2_region.specs.inner.Windows.{IsLeft}
 
 abbrev pub invariant-loop-index : goal.invariant-loop-index
 invariant-loop-index g l = record {

@@ -3,7 +3,7 @@ use Rattle.jbig2_region.specs.Refinement.{refinement_coding}
 use Rattle.jbig2_region.specs.inner.PixelArrays.{two_pixels}
 use Rattle.jbig2_region.specs.declared.template.AdaptiveTemplatePixel.{AdaptiveTemplatePixel}
 use Rattle.jbig2_region.specs.inner.RegionStates.{DecodesRegion, region_state}
-use Rattle.jbig2_region.specs.inner.RefinementViews.{reference_view}
+use Rattle.jbig2_region.specs.inner.ReferenceViews.{reference_view}
 use Rattle.jbig2_region.proofs.Prices.{decided-paid, refinement_loads-few}
 use Rattle.jbig2_text.proofs.PayingLemmas.{beside-worth}
 use Rattle.jbig2_text.specs.{Refining.{Refining}, inner.TextViews.{some_pixels}}

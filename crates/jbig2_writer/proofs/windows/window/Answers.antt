@@ -1,7 +1,7 @@
 use Rattle.std.proofs.Common.{◌≡◌, ℕ, ◌+◌, ◌-◌, pos, ◌-ℤ◌, arith, refl, sym, subst, ◌∙◌}
 use Rattle.std.proofs.lemmas.Int.{ints}
-use Rattle.jbig2_region.specs.inner.Neighbours.{IsWindow}
 use Rattle.jbig2_region.proofs.WindowLemmas.{pixel-inside, window-first, window-none, window-word}
+use Rattle.jbig2_region.specs.inner.Windows.{IsWindow}
 use Rattle.jbig2_writer.proofs.windows.window.Goals as goal
 
 pub returns-then-y-back-clause-value : goal.returns-then-y-back-clause-value

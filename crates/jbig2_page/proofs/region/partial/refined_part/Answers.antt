@@ -1,6 +1,6 @@
 use Rattle.std.proofs.Common.{◌∙◌, arith}
 use Rattle.jbig2_steps.proofs.WorkLemmas.{counts-worth}
-use Rattle.jbig2_region.specs.inner.RefinedViews.{header_view}
+use Rattle.jbig2_region.specs.inner.RefinementHeaderViews.{header_view}
 use Rattle.jbig2_region.specs.inner.RegionViews.{region_view}
 use Rattle.jbig2_page.proofs.Direct.{part-placed}
 use Rattle.jbig2_page.proofs.RegionSizes.{refined_part-made}

@@ -3,7 +3,7 @@ use Rattle.jbig2_base.specs.declared.error.DecodeError.{DecodeError}
 use Rattle.jbig2_region.specs.GenericHeader.{GenericHeader, IsParsed}
 use Rattle.jbig2_region.specs.WholeRows.{whole_generic_rows}
 use Rattle.jbig2_region.specs.declared.generic.header.GenericRegionHeader.{GenericRegionHeader}
-use Rattle.jbig2_region.specs.inner.GenericViews.{header_view}
+use Rattle.jbig2_region.specs.inner.GenericHeaderViews.{header_view}
 use Rattle.jbig2_page.proofs.WholeRows.{whole-parsed}
 use Rattle.jbig2_page.proofs.region.partial.with_whole_rows.Goals as goal
 use Rattle.jbig2_page.proofs.region.partial.with_whole_rows.Goals.{then-is_partial+in_ok-header, else-is_partial}

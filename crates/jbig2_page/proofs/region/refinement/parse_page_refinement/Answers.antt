@@ -1,7 +1,7 @@
 use Rattle.std.proofs.Common.{◌≡◌, Err, inl, inr, ⊎_elim, subst, sym}
 use Rattle.std.proofs.lemmas.Result.{err_from_is_err_and}
 use Rattle.jbig2_base.specs.declared.error.DecodeError.TheVariants.{OutOfMemory}
-use Rattle.jbig2_region.specs.inner.RefinedViews.{header_view}
+use Rattle.jbig2_region.specs.inner.RefinementHeaderViews.{header_view}
 use Rattle.jbig2_page.specs.inner.PageViews.{near_area}
 use Rattle.jbig2_page.proofs.Direct.{page-refined}
 use Rattle.jbig2_page.proofs.PageArea.{area-far, area-near}

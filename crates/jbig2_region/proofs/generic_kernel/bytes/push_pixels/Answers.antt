@@ -2,13 +2,14 @@ use Rattle.std.proofs.Common.{arith, refl, set, length, ℕ, ◌≡◌, ◌<◌,
 use Rattle.std.proofs.lemmas.Nat.{mod_below, pow_pos}
 use Rattle.jbig2_base.specs.Writes.{with_pixels}
 use Rattle.jbig2_region.specs.inner.PushedPixels.{PushesPixels}
-use Rattle.jbig2_region.specs.inner.Neighbours.{DecodesPixels, IsLeft, nominal_pixels, register_of}
+use Rattle.jbig2_region.specs.inner.Neighbours.{DecodesPixels, nominal_pixels, register_of}
 use Rattle.jbig2_region.proofs.GatherLemmas.{cut-digit, fields}
 use Rattle.jbig2_region.proofs.RegisterLemmas.{beside-fits, beside-next, left-whole, low-bits, register-context, register-fits, register-next}
 use Rattle.jbig2_region.proofs.StepLemmas.{no-decisions, more-decisions}
 use Rattle.jbig2_region.proofs.StoreLemmas.{decodes-start, decodes-bit, left-start, left-bit, stored-above, inside-states}
 use Rattle.jbig2_region.proofs.generic_kernel.bytes.push_pixels.Goals as goal
 use Rattle.jbig2_region.specs.inner.RegionStates.{decoder_state, region_state}
+use Rattle.jbig2_region.specs.inner.Windows.{IsLeft}
 
 pub loop-init : goal.loop-init
 loop-init g c = record {

@@ -2,9 +2,10 @@ use Rattle.std.proofs.Common.{◌≡◌, ℕ, ◌+◌, ◌*◌, ◌%◌, ◌^◌
 use Rattle.jbig2_base.specs.Grid.{Grid}
 use Rattle.jbig2_base.specs.Writes.{with_pixels}
 use Rattle.jbig2_region.specs.inner.PushedPixels.{PushesPixels, IsAtPixels}
-use Rattle.jbig2_region.specs.inner.Neighbours.{IsLeft, cut_of, register_of}
+use Rattle.jbig2_region.specs.inner.Neighbours.{cut_of, register_of}
 use Rattle.jbig2_region.proofs.generic_kernel.bytes.push_pixels.Given as goal
 use Rattle.jbig2_region.specs.inner.RegionStates.{decoder_state}
+use Rattle.jbig2_region.specs.inner.Windows.{IsLeft}
 
 abbrev pub invariant-loop : goal.invariant-loop
 invariant-loop g l = record {

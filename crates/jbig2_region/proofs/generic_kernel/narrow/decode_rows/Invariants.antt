@@ -1,11 +1,12 @@
 use Rattle.std.proofs.Common.{◌≡◌, ◌≤◌, ◌+◌, ◌*◌, true, false}
 use Rattle.jbig2_base.specs.Counts.{KeepsLanes}
 use Rattle.jbig2_region.specs.inner.RegionStates.{HasDecoded, region_state}
-use Rattle.jbig2_region.specs.inner.Neighbours.{Shows, nominal_pixels, row_coding}
+use Rattle.jbig2_region.specs.inner.Neighbours.{nominal_pixels, row_coding}
 use Rattle.jbig2_region.specs.Raster.{no_pixels}
 use Rattle.jbig2_region.specs.inner.Rows.{after_rows}
 use Rattle.jbig2_region.specs.Steps.{row_tests, row_words}
 use Rattle.jbig2_region.proofs.RegionLemmas.{Counted}
+use Rattle.jbig2_region.specs.inner.Windows.{Shows}
 use Rattle.jbig2_region.proofs.generic_kernel.narrow.decode_rows.Given as goal
 
 abbrev pub invariant-loop-y : goal.invariant-loop-y

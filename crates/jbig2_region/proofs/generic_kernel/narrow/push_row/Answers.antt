@@ -4,12 +4,13 @@ use Rattle.jbig2_base.specs.Counts.{Counts}
 use Rattle.jbig2_base.specs.Grid.{Grid}
 use Rattle.jbig2_base.specs.Writes.{with_pixels}
 use Rattle.jbig2_region.specs.inner.PushedPixels.{IsAtPixels, IsAtRow}
-use Rattle.jbig2_region.specs.inner.Neighbours.{DecodesPixels, Shows, nominal_pixels}
+use Rattle.jbig2_region.specs.inner.Neighbours.{DecodesPixels, nominal_pixels}
 use Rattle.jbig2_region.proofs.CountLemmas.{counts-last, counts-none, counts-then}
 use Rattle.jbig2_region.proofs.PushLemmas.{few-next, one-shifted, row-fits, at_pixels-next, stored-next}
 use Rattle.jbig2_region.proofs.StoreLemmas.{decodes-start, decodes-then}
 use Rattle.jbig2_region.proofs.generic_kernel.narrow.push_row.Goals as goal
 use Rattle.jbig2_region.specs.inner.RegionStates.{region_state}
+use Rattle.jbig2_region.specs.inner.Windows.{Shows}
 
 pub loop-init : goal.loop-init
 loop-init g c = record {

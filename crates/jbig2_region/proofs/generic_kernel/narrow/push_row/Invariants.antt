@@ -2,9 +2,9 @@ use Rattle.std.proofs.Common.{◌≡◌, ℕ, ◌+◌, ◌-◌, ◌*◌, ◌^◌
 use Rattle.jbig2_base.specs.Counts.{KeepsLanes}
 use Rattle.jbig2_base.specs.Grid.{Grid}
 use Rattle.jbig2_region.specs.inner.PushedPixels.{CountsRowPixels, PushesRow}
-use Rattle.jbig2_region.specs.inner.Neighbours.{Shows}
 use Rattle.jbig2_region.proofs.generic_kernel.narrow.push_row.Given as goal
 use Rattle.jbig2_region.specs.inner.RegionStates.{decoder_state}
+use Rattle.jbig2_region.specs.inner.Windows.{Shows}
 
 abbrev pub invariant-loop : goal.invariant-loop
 invariant-loop g l = record {

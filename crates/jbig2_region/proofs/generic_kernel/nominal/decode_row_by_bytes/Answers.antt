@@ -3,7 +3,7 @@ use Rattle.std.proofs.lemmas.Bool.{cases_lt}
 use Rattle.jbig2_base.proofs.LaneCounts.{lanes-none, lanes-then}
 use Rattle.jbig2_base.specs.Counts.{Counts, KeepsLanes}
 use Rattle.jbig2_base.specs.Grid.{Grid}
-use Rattle.jbig2_region.specs.inner.Neighbours.{DecodesPixels, IsLeft, SameAbove, Shows, ShowsBefore, nominal_pixels}
+use Rattle.jbig2_region.specs.inner.Neighbours.{DecodesPixels, SameAbove, nominal_pixels}
 use Rattle.jbig2_region.specs.inner.PushedPixels.{IsAtPixels, IsAtGroup}
 use Rattle.jbig2_region.specs.inner.RowCounts.{CountsRuns}
 use Rattle.jbig2_region.proofs.CarriedLemmas.{shows-before, shows-none_before}
@@ -13,6 +13,7 @@ use Rattle.jbig2_region.proofs.StoreLemmas.{decodes-none, decodes-then, left-non
 use Rattle.jbig2_region.proofs.WindowLemmas.{shows-less, shows-same}
 use Rattle.jbig2_region.proofs.generic_kernel.nominal.decode_row_by_bytes.Goals as goal
 use Rattle.jbig2_region.specs.inner.RegionStates.{region_state}
+use Rattle.jbig2_region.specs.inner.Windows.{IsLeft, Shows, ShowsBefore}
 
 pub loop-group-init : goal.loop-group-init
 loop-group-init g c =

@@ -3,7 +3,7 @@ use Rattle.std.proofs.Math.Nat.{pow-le-pow_right}
 use Rattle.jbig2_base.proofs.LaneCounts.{lanes-none, lanes-then}
 use Rattle.jbig2_base.specs.Grid.{Grid}
 use Rattle.jbig2_base.specs.Writes.{with_pixels}
-use Rattle.jbig2_region.specs.inner.Neighbours.{DecodesPixels, IsLeft, nominal_pixels}
+use Rattle.jbig2_region.specs.inner.Neighbours.{DecodesPixels, nominal_pixels}
 use Rattle.jbig2_region.specs.inner.PushedPixels.{CountsGroup, PushesGroup, IsAtBytes, IsAtGroup}
 use Rattle.jbig2_region.proofs.CountLemmas.{counts-none, counts-then}
 use Rattle.jbig2_region.proofs.GroupLemmas.{byte-first, byte-run, group-same}
@@ -11,6 +11,7 @@ use Rattle.jbig2_region.proofs.PushLemmas.{few-next, left-stored, stored-bytes}
 use Rattle.jbig2_region.proofs.StoreLemmas.{decodes-start, decodes-then, left-start, stored-above}
 use Rattle.jbig2_region.proofs.generic_kernel.nominal.push_group.Goals as goal
 use Rattle.jbig2_region.specs.inner.RegionStates.{decoder_state, region_state}
+use Rattle.jbig2_region.specs.inner.Windows.{IsLeft}
 
 pub loop-done-init : goal.loop-done-init
 loop-done-init g c = record {

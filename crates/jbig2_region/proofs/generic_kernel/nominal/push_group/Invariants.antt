@@ -2,10 +2,10 @@ use Rattle.std.proofs.Common.{◌≡◌, ◌<◌, ◌≤◌, ◌+◌, ◌-◌, �
 use Rattle.jbig2_base.specs.Counts.{KeepsLanes}
 use Rattle.jbig2_base.specs.Grid.{Grid}
 use Rattle.jbig2_base.specs.Writes.{with_pixels}
-use Rattle.jbig2_region.specs.inner.Neighbours.{IsLeft, AreAtByte}
 use Rattle.jbig2_region.specs.inner.PushedPixels.{CountsGroup, PushesGroup, IsAtGroup}
 use Rattle.jbig2_region.proofs.generic_kernel.nominal.push_group.Given as goal
 use Rattle.jbig2_region.specs.inner.RegionStates.{decoder_state}
+use Rattle.jbig2_region.specs.inner.Windows.{AreAtByte, IsLeft}
 
 abbrev pub invariant-loop-done : goal.invariant-loop-done
 invariant-loop-done g l = record {

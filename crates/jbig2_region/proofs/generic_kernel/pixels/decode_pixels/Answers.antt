@@ -3,9 +3,10 @@ use Rattle.jbig2_base.proofs.LaneCounts.{lanes-none}
 use Rattle.jbig2_base.specs.Counts.{Counts}
 use Rattle.jbig2_base.specs.Grid.{Grid}
 use Rattle.jbig2_base.specs.Writes.{with_pixels}
-use Rattle.jbig2_region.specs.inner.Neighbours.{IsLeft, mixed_pixels, SameAbove}
+use Rattle.jbig2_region.specs.inner.Neighbours.{mixed_pixels, SameAbove}
 use Rattle.jbig2_region.proofs.StoreLemmas.{decodes-none, decodes-pixel, left-pixel, stored-above, same-above-then, inside-states}
 use Rattle.jbig2_region.proofs.WindowLemmas.{shows-same}
+use Rattle.jbig2_region.specs.inner.Windows.{IsLeft}
 use Rattle.jbig2_region.proofs.generic_kernel.pixels.decode_pixels.Goals as goal
 
 pub loop-offset-init : goal.loop-offset-init

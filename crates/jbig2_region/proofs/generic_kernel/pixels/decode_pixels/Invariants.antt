@@ -1,8 +1,9 @@
 use Rattle.std.proofs.Common.{◌≡◌, ◌+◌, ◌*◌, ◌<◌, false}
 use Rattle.jbig2_base.specs.Counts.{KeepsLanes}
-use Rattle.jbig2_region.specs.inner.Neighbours.{DecodesPixels, IsLeft, adaptive_count, mixed_pixels, SameAbove}
+use Rattle.jbig2_region.specs.inner.Neighbours.{DecodesPixels, adaptive_count, mixed_pixels, SameAbove}
 use Rattle.jbig2_region.proofs.generic_kernel.pixels.decode_pixels.Given as goal
 use Rattle.jbig2_region.specs.inner.RegionStates.{region_state}
+use Rattle.jbig2_region.specs.inner.Windows.{IsLeft}
 
 abbrev pub invariant-loop-offset : goal.invariant-loop-offset
 invariant-loop-offset g l = record {

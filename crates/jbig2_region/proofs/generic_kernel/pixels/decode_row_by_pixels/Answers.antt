@@ -1,10 +1,11 @@
 use Rattle.std.proofs.Common.{arith, refl, false, min, subst, ◌≡◌, ◌+◌, ◌*◌, ℕ, ◌∙◌}
 use Rattle.jbig2_base.proofs.LaneCounts.{lanes-none, lanes-then}
-use Rattle.jbig2_region.specs.inner.Neighbours.{DecodesPixels, IsLeft, mixed_pixels, adaptive_count}
+use Rattle.jbig2_region.specs.inner.Neighbours.{DecodesPixels, mixed_pixels, adaptive_count}
 use Rattle.jbig2_region.proofs.StepLemmas.{block-loads, none-loads}
 use Rattle.jbig2_region.proofs.StoreLemmas.{decodes-none, decodes-then, left-none}
 use Rattle.jbig2_region.proofs.generic_kernel.pixels.decode_row_by_pixels.Goals as goal
 use Rattle.jbig2_region.specs.inner.RegionStates.{region_state}
+use Rattle.jbig2_region.specs.inner.Windows.{IsLeft}
 
 pub loop-index-init : goal.loop-index-init
 loop-index-init g c =

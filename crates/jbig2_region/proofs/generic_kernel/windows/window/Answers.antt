@@ -1,6 +1,6 @@
 use Rattle.std.proofs.Common.{arith, ◌≡◌, ◌+◌, ◌-◌, ℕ, pos, ◌-ℤ◌, subst}
-use Rattle.jbig2_region.specs.inner.Neighbours.{IsWindow}
 use Rattle.jbig2_region.proofs.WindowLemmas.{window-first, window-word}
+use Rattle.jbig2_region.specs.inner.Windows.{IsWindow}
 use Rattle.jbig2_region.proofs.generic_kernel.windows.window.Goals as goal
 
 pub returns-then-x-eq0-clause-value : goal.returns-then-x-eq0-clause-value

@@ -1,7 +1,7 @@
 use Rattle.std.proofs.Common.{arith, subst, ◌+◌, ◌*◌, ◌%◌, ℕ}
 use Rattle.jbig2_region.specs.declared.generic_kernel.windows.Windows.{Windows}
-use Rattle.jbig2_region.specs.inner.Neighbours.{Shows}
 use Rattle.jbig2_region.proofs.CarriedLemmas.{shows-alone, shows-cut}
+use Rattle.jbig2_region.specs.inner.Windows.{Shows}
 use Rattle.jbig2_region.proofs.generic_kernel.words.last_windows.Goals as goal
 
 pub returns-clause-alone : goal.returns-clause-alone

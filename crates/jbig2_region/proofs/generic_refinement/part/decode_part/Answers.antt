@@ -7,7 +7,7 @@ use Rattle.jbig2_base.proofs.Causes.{same-ok}
 use Rattle.jbig2_base.proofs.FillLemmas.{white-made}
 use Rattle.jbig2_base.proofs.MadeLemmas.{made-counted, words-same, made-paid}
 use Rattle.jbig2_base.proofs.Prices.{price-same}
-use Rattle.jbig2_region.specs.inner.RefinedViews.{header_view}
+use Rattle.jbig2_region.specs.inner.RefinementHeaderViews.{header_view}
 use Rattle.jbig2_region.specs.RegionInfo.{PlacedRegion}
 use Rattle.jbig2_region.specs.inner.RegionViews.{region_view}
 use Rattle.jbig2_region.proofs.PartLemmas.{covered-paid, fewer-paid, part-drawn, refined-parsed, rows-refused}

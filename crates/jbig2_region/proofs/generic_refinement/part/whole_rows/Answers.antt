@@ -10,7 +10,7 @@ use Rattle.jbig2_base.proofs.MadeLemmas.{made-counted, words-same, made-paid}
 use Rattle.jbig2_base.proofs.Prices.{price-same}
 use Rattle.jbig2_coder.specs.Coder.{fresh_contexts}
 use Rattle.jbig2_region.specs.RefinementTemplates.{refinement_bits}
-use Rattle.jbig2_region.specs.inner.RefinedViews.{header_view}
+use Rattle.jbig2_region.specs.inner.RefinementHeaderViews.{header_view}
 use Rattle.jbig2_region.specs.inner.RegionViews.{region_view}
 use Rattle.jbig2_region.proofs.GenericPrices.{counted-rows-paid}
 use Rattle.jbig2_region.proofs.PartLemmas.{rows-refined}

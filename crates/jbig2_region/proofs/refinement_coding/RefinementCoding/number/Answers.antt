@@ -1,7 +1,7 @@
 use Rattle.std.proofs.Common.{arith, ◌≡◌, ℕ, ◌+◌, ◌-◌, length, drop, map, get_or, ◌++◌, refl, ap, ◌∙◌}
 use Rattle.jbig2_region.specs.Generic.{number_of}
 use Rattle.jbig2_region.specs.Refinement.{reference_pixel}
-use Rattle.jbig2_region.specs.inner.RefinementViews.{reference_view}
+use Rattle.jbig2_region.specs.inner.ReferenceViews.{reference_view}
 use Rattle.jbig2_region.specs.Templates.{right}
 use Rattle.jbig2_region.proofs.RefinementLemmas.{number-step, number-none, bound-start, bound-step, bound-whole, digit-below}
 use Rattle.jbig2_region.proofs.StepLemmas.{no-loads, more-loads}

@@ -1,7 +1,7 @@
 use Rattle.std.proofs.Common.{◌≡◌, ◌<◌, ◌≤◌, ◌+◌, ◌-◌, ◌^◌, ◌++◌, Bool, List, length, drop, map}
 use Rattle.jbig2_region.specs.Generic.{number_of}
 use Rattle.jbig2_region.specs.Refinement.{reference_pixel}
-use Rattle.jbig2_region.specs.inner.RefinementViews.{reference_view}
+use Rattle.jbig2_region.specs.inner.ReferenceViews.{reference_view}
 use Rattle.jbig2_region.proofs.refinement_coding.RefinementCoding.number.Given as goal
 
 abbrev pub invariant-loop-left : goal.invariant-loop-left

@@ -2,9 +2,10 @@ use Rattle.std.proofs.Common.{arith, false, min, subst, ◌≡◌, ◌+◌, ◌*
 use Rattle.jbig2_base.proofs.LaneCounts.{lanes-none, lanes-then}
 use Rattle.jbig2_region.specs.Raster.{Coding}
 use Rattle.jbig2_region.specs.{inner.RegionViews.{skip_of}, Generic.{skipping_coding}}
-use Rattle.jbig2_region.specs.inner.Neighbours.{IsLeft, nominal_pixels}
+use Rattle.jbig2_region.specs.inner.Neighbours.{nominal_pixels}
 use Rattle.jbig2_region.proofs.StoreLemmas.{left-none}
 use Rattle.jbig2_region.proofs.StretchLemmas.{pixels-none, pixels-then}
+use Rattle.jbig2_region.specs.inner.Windows.{IsLeft}
 use Rattle.jbig2_region.proofs.skipping.rows.decode_row.Goals as goal
 
 pub loop-index-init : goal.loop-index-init

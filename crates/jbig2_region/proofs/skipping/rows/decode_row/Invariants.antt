@@ -1,10 +1,11 @@
 use Rattle.std.proofs.Common.{◌≡◌, ◌≤◌, ◌+◌, ◌*◌, ◌<◌, min, false}
 use Rattle.jbig2_base.specs.Counts.{KeepsLanes}
 use Rattle.jbig2_region.specs.{inner.RegionViews.{skip_of}, Generic.{skipping_coding}}
-use Rattle.jbig2_region.specs.inner.Neighbours.{IsLeft, nominal_pixels}
+use Rattle.jbig2_region.specs.inner.Neighbours.{nominal_pixels}
 use Rattle.jbig2_region.proofs.skipping.rows.decode_row.Given as goal
 use Rattle.jbig2_region.specs.inner.RegionStates.{counted_region}
 use Rattle.jbig2_region.specs.inner.DecodedPixels.{DecodesPixels}
+use Rattle.jbig2_region.specs.inner.Windows.{IsLeft}
 
 abbrev pub invariant-loop-index : goal.invariant-loop-index
 invariant-loop-index g l = record {

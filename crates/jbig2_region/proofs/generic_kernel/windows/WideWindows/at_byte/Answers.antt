@@ -1,8 +1,8 @@
 use Rattle.std.proofs.Common.{arith, refl, subst, sym, ◌≡◌, ◌+◌, ◌-◌, ◌*◌, ◌%◌, ◌<◌, ◌≤◌, ℕ}
-use Rattle.jbig2_region.specs.inner.Neighbours.{Shows}
 use Rattle.jbig2_region.specs.declared.generic_kernel.windows.Windows.{Windows}
 use Rattle.jbig2_region.proofs.generic_kernel.windows.WideWindows.at_byte.Goals as goal
 use Rattle.jbig2_region.proofs.generic_kernel.windows.WideWindows.at_byte.Goals.{then-done-ge4, else-done-ge4}
+use Rattle.jbig2_region.specs.inner.Windows.{Shows}
 
 pub returns : goal.returns
 returns c = λ bytes within g x y shows.

@@ -1,5 +1,5 @@
 use Rattle.std.proofs.Common.{arith, refl, subst, ◌≡◌, ◌+◌, ◌-◌, ◌*◌, ◌%◌, ℕ}
-use Rattle.jbig2_region.specs.inner.Neighbours.{Shows}
+use Rattle.jbig2_region.specs.inner.Windows.{Shows}
 use Rattle.jbig2_region.proofs.generic_kernel.windows.WideWindows.next_byte.Goals as goal
 
 pub returns-else-done-eq4 : goal.returns-else-done-eq4

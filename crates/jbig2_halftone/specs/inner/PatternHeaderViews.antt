@@ -1,4 +1,4 @@
--- Values of the code for pattern dictionaries, as the definitions see them (our own rule).
+-- The code's header of a pattern dictionary, as the definition's header.
 use Rattle.jbig2_halftone.specs.PatternHeader.{PatternHeader}
 use Rattle.jbig2_halftone.specs.declared.pattern.PatternDictionaryHeader.{PatternDictionaryHeader}
 
