@@ -6,8 +6,8 @@ use Rattle.std.specs.Int.RustNames.{bit_or, bit_xor}
 use lib.Bits.{bit_and}
 use Rattle.std.proofs.lemmas.Bool.{cases_eq, cases_lt, eq-eqb, ne_eqb, cond-true, cond-false, and_from, and_left, and_right, le-leb, lt-leb, lt-ltb, le-ltb}
 use Rattle.std.proofs.lemmas.Bool.Decides.{nat_tests}
+use Rattle.jbig2_base.specs.Bits.{bit_number}
 use Rattle.std.proofs.lemmas.Nat.Bits as bits
-use Rattle.jbig2_base.specs.Grid.{bit_number}
 use Rattle.jbig2_base.specs.{Bits.{bit}, inner.WordBits.{field_bit}}
 
 bit_number-test : (x : ℕ) → x < 2 → bit_number (eqb x 1) ≡ x

@@ -2,12 +2,11 @@
 use Rattle.std.proofs.Common.{◌≡◌, ℕ, ◌+◌, ◌-◌, ◌*◌, ◌/◌, ◌%◌, min, max, ◌<◌, ◌≤◌, Bool, false, ◌&&◌, cond, eqb, ltb, leb, refl, sym, ap, ◌∙◌, ◌⊎◌, inl, inr, ⊎_elim, arith}
 use Rattle.std.proofs.lemmas.Bool.{cases_eq, cases_lt, cond-true, cond-false, and_from, and_left, and_right, le-leb, lt-leb, lt-ltb, le-ltb}
 use Rattle.jbig2_base.specs.declared.bitmap.operator.CombinationOperator.{CombinationOperator}
-use Rattle.jbig2_base.specs.Grid.{Grid, grid_of, pixel_at}
+use Rattle.jbig2_base.specs.Grid.{Grid, grid_of, IsTable, pixel_at}
 use Rattle.jbig2_base.specs.Combination.{combined_pixel}
 use Rattle.jbig2_base.specs.Bits.{bit}
 use Rattle.jbig2_base.specs.Writes.{with_pixels}
-use Rattle.jbig2_base.specs.Blocks.{block_pixel, with_block}
-use Rattle.jbig2_base.specs.Table.{IsTable}
+use Rattle.jbig2_base.specs.inner.Blocks.{block_pixel, with_block}
 use Rattle.jbig2_base.proofs.GridLemmas.{grid_of-ext, pixel_at-grid_of}
 use Rattle.jbig2_base.proofs.WriteLemmas.{in_field, before_field, after_field, other_row}
 

@@ -7,11 +7,10 @@ use mir.Syntax.{w32}
 use mir.Val.{SFits, to_z, of_z}
 use Rattle.jbig2_base.specs.declared.bitmap.operator.CombinationOperator.{CombinationOperator}
 use Rattle.jbig2_base.specs.Counts.{Counts}
-use Rattle.jbig2_base.specs.Grid.{Grid, pixel_at, pixel}
+use Rattle.jbig2_base.specs.Grid.{Grid, pixel_at, pixel, IsTable}
 use Rattle.jbig2_base.specs.{Combination.{combined_pixel, is_below, drawn_pixel, combined_grid}, Counts.{overlap, most_words, first_under, first_shown, rows_combined, source_combined, WritesWithin}}
-use Rattle.jbig2_base.specs.Blocks.{LiesOn, block_pixel, with_block}
+use Rattle.jbig2_base.specs.inner.Blocks.{LiesOn, block_pixel, with_block}
 use Rattle.jbig2_base.specs.inner.Combines.{block_of}
-use Rattle.jbig2_base.specs.Table.{IsTable}
 use Rattle.jbig2_base.proofs.CountLemmas.{rows-none, within-rows}
 use Rattle.jbig2_base.proofs.GridLemmas.{grid_of-ext}
 use Rattle.jbig2_base.proofs.BlockLemmas.{block-in, block-out, block-none}

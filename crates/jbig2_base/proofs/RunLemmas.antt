@@ -4,7 +4,7 @@ use Rattle.std.proofs.lemmas.Bool.{cases_eq, cases_lt, cond-true, cond-false}
 use Rattle.jbig2_base.specs.declared.bitmap.operator.CombinationOperator.{CombinationOperator}
 use Rattle.jbig2_base.specs.Grid.{Grid, grid_of, pixel_at}
 use Rattle.jbig2_base.specs.Combination.{combined_pixel}
-use Rattle.jbig2_base.specs.Blocks.{block_pixel, with_block, with_run}
+use Rattle.jbig2_base.specs.inner.Blocks.{block_pixel, with_block, with_run}
 use Rattle.jbig2_base.specs.inner.Packed.{IsPacked, packed_pixel, packed_grid}
 use Rattle.jbig2_base.specs.Bits.{bit}
 use Rattle.jbig2_base.proofs.BitLemmas.{bit-shr, bit-shl_high, mask-inside, mask-below, mask-above}

@@ -1,7 +1,7 @@
--- The least number that passes a test, and the fewest bits that tell this many things apart.
-use Rattle.std.proofs.Common.{◌≡◌, ℕ, zero, suc, ◌-◌, ◌^◌, ◌<◌, ◌≤◌, leb, Bool, true, false, sym, ◌∙◌, ap, arith, pow-suc, ⊎_elim}
-use Rattle.std.proofs.lemmas.Bool.{cases_eq, cond-true, cond-false, le-leb, lt-leb, cond_both}
-use Rattle.jbig2_base.specs.Search.{least, place_from, code_length}
+-- The least number that passes a test.
+use Rattle.std.proofs.Common.{◌≡◌, ℕ, zero, suc, ◌-◌, ◌<◌, ◌≤◌, Bool, true, false, ◌∙◌, ap, arith, ⊎_elim}
+use Rattle.std.proofs.lemmas.Bool.{cases_eq, cond-true, cond-false, cond_both}
+use Rattle.jbig2_base.specs.Search.{least, place_from}
 
 least-is : (n : ℕ) (p : ℕ → Bool) (to place : ℕ) → n ≤ to → to - n ≤ place → place ≤ to → ((i : ℕ) → to - n ≤ i → i < place → p i ≡ false) → (place < to → p place ≡ true) → least p n to ≡ place
 unfolding least
@@ -44,15 +44,3 @@ least-none (suc n) p to i fits past after below =
 
 pub place-none : (p : ℕ → Bool) (to i : ℕ) → to ≤ place_from p 0 to → i < to → p i ≡ false
 place-none p to i past below = least-none (to - 0) p to i (omega arith) past (omega arith) below
-
-below-pow : (n : ℕ) → n < 2 ^ n
-below-pow zero = omega arith
-below-pow (suc n) = rw pow-suc (omega (arith, below-pow n))
-
-few : (n k : ℕ) → ((j : ℕ) → j < k → 2 ^ j < n) → k ≤ n
-few n zero below = omega arith
-few n (suc k) below = omega (arith, below k (omega arith), below-pow k)
-
-pub code-length-is : (n k : ℕ) → n ≤ 2 ^ k → ((j : ℕ) → j < k → 2 ^ j < n) → k ≡ code_length n
-code-length-is n k enough below =
-    sym (place-is (λ b. leb n (2 ^ b)) 0 n k (omega arith) (omega arith) (few n k below) (λ j above under. lt-leb n (2 ^ j) (below j under)) (λ _. le-leb n (2 ^ k) enough))

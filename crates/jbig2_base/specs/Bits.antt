@@ -2,7 +2,7 @@
 -- is the place after it. A refused read of bits moves to the end. A read of bytes begins with the current byte, whole,
 -- and leaves the place at the beginning of a byte. A refused read of bytes does not move.
 use Rattle.std.specs.Prelude.{ℕ, ◌+◌, ◌*◌, ◌/◌, ◌%◌, nat_lt, ◌==◌, List, [], ◌∷◌, length, take, drop, Option, Some}
-use Rattle.std.specs.Prelude.{None, if◌then◌else◌, ◌^◌, Bool}
+use Rattle.std.specs.Prelude.{None, if◌then◌else◌, ◌^◌, Bool, true, false}
 use Rattle.std.specs.List.{flat_map}
 use Rattle.std.specs.Int.{Width, byte_len, from_be_bytes}
 
@@ -49,3 +49,7 @@ nonzero b = if b == 0 then None else Some b
 
 unfoldable pub bit : ℕ → ℕ → Bool
 bit n k = n / 2 ^ k % 2 == 1
+
+abbrev pub bit_number : Bool → ℕ
+bit_number true = 1
+bit_number false = 0

@@ -2,7 +2,7 @@
 -- from a function of column and row, and `pixel` reads one pixel of it. Parts are cut out of bitmaps for symbols
 -- (6.5.9), patterns (6.7.5) and refinements (7.4.7.4). Some sizes are refused (our own rule).
 use Rattle.std.specs.Prelude.{ℕ, ◌+◌, ◌*◌, ◌/◌, ◌%◌, Bool, true, false, not, ◌&&◌, if◌then◌else◌, nat_lt, List, map}
-use Rattle.std.specs.Prelude.{slice_index_or, ℤ, pos, ◌||◌, Result, Ok}
+use Rattle.std.specs.Prelude.{slice_index_or, ℤ, pos, ◌||◌, Result, Ok, ◌≡◌}
 use Rattle.std.specs.List.{range_with_len}
 use Rattle.jbig2_base.specs.Results.{◌>>=◌, refuse_if}
 use Rattle.jbig2_base.specs.declared.bitmap.part.Area.{Area}
@@ -30,10 +30,6 @@ pixel g _ _ = false
 
 abbrev pub blank : ℕ → ℕ → Bool → Grid  -- a grid of one colour
 blank w h black = grid_of w h (λ _ _. black)
-
-abbrev pub bit_number : Bool → ℕ
-bit_number true = 1
-bit_number false = 0
 
 abbrev pub same_colour : Bool → Bool → Bool
 same_colour one other = if one then other else not other
@@ -64,3 +60,7 @@ blank_or_overflow w h black = check_sides w h >>= λ _. Ok (blank w h black)
 abbrev pub wide_or_overflow : ℕ → ℕ → Result Grid DecodeError
 wide_or_overflow w h =
     refuse_if (nat_lt (max_side * max_side) (w * h)) (Overflow BitmapDimension) >>= λ _. Ok (blank w h false)
+
+-- The list has exactly one pixel for each column of each row (our own rule).
+abbrev pub IsTable : Grid → Type 0
+IsTable g = g ≡ grid_of g.width g.height (pixel_at g)

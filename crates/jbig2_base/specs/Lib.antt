@@ -1,5 +1,4 @@
 pub mod Bits
-pub mod Blocks
 pub mod Causes
 pub mod Colour
 pub mod Combination
@@ -9,6 +8,5 @@ pub mod Fields
 pub mod Grid
 pub mod Results
 pub mod Search
-pub mod Table
 pub mod Writes
 pub mod inner

@@ -1,7 +1,7 @@
 -- The least number that passes a test (our own rule). It finds the next change of a row (T.6), the first end marker
--- (T.88, 7.2.7) and the fewest bits of a code (6.5.8.2.3). `place_from` takes the test and the bounds of the search. It
+-- (T.88, 7.2.7) and, in the crate of coders, the fewest bits of a code (6.5.8.2.3). `place_from` takes the test and the bounds of the search. It
 -- gives the number, or the upper bound if no number passes.
-use Rattle.std.specs.Prelude.{ℕ, zero, suc, ◌-◌, ◌^◌, nat_le, Bool, if◌then◌else◌}
+use Rattle.std.specs.Prelude.{ℕ, zero, suc, ◌-◌, Bool, if◌then◌else◌}
 
 unfoldable pub least : (ℕ → Bool) → ℕ → ℕ → ℕ  -- the least of the last n numbers below `to` that passes, else `to`
 least test zero to = to
@@ -10,6 +10,3 @@ least test (suc n) to = if test (to - suc n) then to - suc n else least test n t
 -- the least number that is at least `from` and below `to` and passes, else `to`
 abbrev pub place_from : (ℕ → Bool) → ℕ → ℕ → ℕ
 place_from test from to = least test (to - from) to
-
-abbrev pub code_length : ℕ → ℕ  -- the fewest bits that can number this many things
-code_length count = place_from (λ bits. nat_le count (2 ^ bits)) 0 count

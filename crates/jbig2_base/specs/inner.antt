@@ -1,4 +1,5 @@
 pub mod BitLists
+pub mod Blocks
 pub mod Combines
 pub mod GridsBefore
 pub mod Layouts

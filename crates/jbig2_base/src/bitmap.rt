@@ -2,11 +2,10 @@
 ghost use Rattle.std.specs.Prelude.{◌≡◌, ℕ, ◌+◌, ◌-◌, ◌*◌, ◌/◌, ◌^◌, ◌<◌, ◌≤◌, OnErr, Ok, false, length, slice_index};
 ghost use Rattle.jbig2_base.specs.Results.{Gives, Returns};
 ghost use Rattle.jbig2_base.specs.Counts.{words_cleared, words_copied};
-ghost use Rattle.jbig2_base.specs.Grid.{Grid, blank, pixel_at, bit_number, part_or_overflow, blank_or_overflow, wide_or_overflow};
+ghost use Rattle.jbig2_base.specs.Grid.{Grid, blank, pixel_at, part_or_overflow, blank_or_overflow, wide_or_overflow, IsTable};
 ghost use Rattle.jbig2_base.specs.Counts.{words_of, wide_words_made, bitmap_made};
 ghost use Rattle.jbig2_base.specs.Causes.{HasCauseOrNoMemory, BreaksSides, BreaksArea};
-ghost use Rattle.jbig2_base.specs.Table.{IsTable};
-ghost use Rattle.jbig2_base.specs.Bits.{bit};
+ghost use Rattle.jbig2_base.specs.Bits.{bit, bit_number};
 ghost use Rattle.jbig2_base.specs.Writes.{with_pixel, with_pixels};
 
 pub mod colour;

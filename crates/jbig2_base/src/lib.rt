@@ -2,7 +2,6 @@
 #![tactic(auto)]
 
 pub mod bitmap;
-pub mod code_length;
 pub mod error;
 mod error_text;
 pub mod field;

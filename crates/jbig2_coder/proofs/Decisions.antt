@@ -1,10 +1,10 @@
 -- A whole decision, quiet or not.
 use Rattle.std.proofs.Common.{◌≡◌, ℕ, ◌-◌, ◌/◌, ◌^◌, ◌<◌, ◌≤◌, Bool, true, false, List, refl, sym}
 use mir.Val.{bool_byte}
-use Rattle.jbig2_base.specs.Grid.{bit_number}
 use Rattle.jbig2_coder.specs.QeTable.{qe_row}
 use Rattle.jbig2_coder.specs.Coder.{Context, Registers, choice, decision, renormd}
 use Rattle.jbig2_coder.proofs.Choices.{choice-quiet}
+use Rattle.jbig2_base.specs.Bits.{bit_number}
 
 pub bool_byte-bit : (b : Bool) → bool_byte b ≡ bit_number b
 bool_byte-bit true = refl

@@ -2,6 +2,7 @@ pub mod Ahead
 pub mod FromInput
 pub mod Causes
 pub mod Choices
+pub mod CodeLengths
 pub mod CustomCauses
 pub mod CustomReading
 pub mod Decisions

@@ -6,7 +6,7 @@ use Rattle.std.proofs.lemmas.List.{get_or_past, get_or_default, drop_all, append
 use Rattle.std.proofs.lemmas.Grind.{take_at_read}
 use Rattle.jbig2_base.specs.declared.error.DecodeError.{DecodeError}
 use Rattle.jbig2_base.specs.Results.{Gives}
-use Rattle.jbig2_base.specs.Grid.{bit_number}
+use Rattle.jbig2_base.specs.Bits.{bit_number}
 use Rattle.jbig2_coder.specs.Coder.{Coder, Context, Decision, Registers, fresh, decision, initial_registers}
 use Rattle.jbig2_coder.specs.Encoder.{EncoderState, CodingInContexts, Codes, HasCoded, initial_coding, encoding, flush_coder, with_marker, with_context, contexts_of, encode_from, encoded_bytes, decoded_from, read_back}
 use Rattle.jbig2_coder.specs.inner.EncoderViews.{Contexts, all_fresh}

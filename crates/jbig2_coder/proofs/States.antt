@@ -2,12 +2,12 @@
 use Rattle.std.proofs.Common.{◌≡◌, ℕ, ◌+◌, ◌-◌, ◌*◌, ◌/◌, ◌%◌, ◌<◌, ◌≤◌, true, not, cond, eqb, List, [], ◌∷◌, get_or, refl, sym, ap, ◌∙◌, ⊎_elim, arith}
 use Rattle.std.specs.List.{flat_map}
 use Rattle.std.proofs.lemmas.Bool.{agree_below_at, cases_eq, eq-eqb, eqb-true, ne_eqb}
-use Rattle.jbig2_base.specs.Grid.{bit_number}
 use Rattle.jbig2_coder.specs.QeTable.{QeData, rows, qe_row}
 use Rattle.jbig2_coder.specs.Coder.{Context, likely_next, unlikely_next}
 use Rattle.jbig2_coder.specs.inner.States.{context_in_state}
 use Rattle.jbig2_coder.specs.declared.arithmetic_decoder.qe_table.State.{State}
 use Rattle.jbig2_coder.proofs.Rows.{row_of-is_row}
+use Rattle.jbig2_base.specs.Bits.{bit_number}
 
 unfoldable pub both_of : QeData → List State
 both_of row =

@@ -5,12 +5,12 @@
 use Rattle.std.specs.Prelude.{ℕ, suc, zero, ◌+◌, ◌-◌, ◌*◌, ◌%◌, ◌^◌, Bool, true, false, not, ◌&&◌, if◌then◌else◌, ◌==◌}
 use Rattle.std.specs.Prelude.{nat_lt, List, [], ◌∷◌, ◌++◌, length, drop, slice_index_or, slice_set, Some, None, Option}
 use Rattle.std.specs.Prelude.{ℤ, pos, ◌-ℤ◌, replicate}
-use Rattle.jbig2_base.specs.Grid.{bit_number}
 use Rattle.jbig2_coder.specs.Coder.{Context, Decision, Registers, fresh, decision, Coder}
 use Rattle.jbig2_coder.specs.declared.integer_procedures.IntegerProcedure.{IntegerProcedure}
 use Rattle.jbig2_coder.specs.declared.integer_procedures.IntegerProcedure.TheVariants.{Iaai, Iadh, Iads, Iadt, Iadw}
 use Rattle.jbig2_coder.specs.declared.integer_procedures.IntegerProcedure.TheVariants.{Iaex, Iafs, Iait, Iardh, Iardw}
 use Rattle.jbig2_coder.specs.declared.integer_procedures.IntegerProcedure.TheVariants.{Iardx, Iardy, Iari}
+use Rattle.jbig2_base.specs.Bits.{bit_number}
 
 unfoldable pub value_of_bits : List Bool → ℕ  -- the number that bits make, high bit first
 value_of_bits [] = 0

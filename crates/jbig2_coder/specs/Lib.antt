@@ -1,4 +1,5 @@
 pub mod Causes
+pub mod CodeLength
 pub mod Coder
 pub mod CustomTable
 pub mod Encoder

@@ -1,8 +1,8 @@
 //! The arithmetic decoder (T.88, Annexes E and G).
 
 ghost use Rattle.std.specs.Prelude.{◌≡◌, ℕ, ◌+◌, ◌-◌, ◌*◌, ◌/◌, ◌^◌, ◌<◌, ◌≤◌, not, true, false, max, if◌then◌else◌, Ok};
-ghost use Rattle.jbig2_base.specs.Grid.{bit_number};
 ghost use Rattle.jbig2_base.specs.Results.{Gives};
+ghost use Rattle.jbig2_base.specs.Bits.{bit_number};
 ghost use Rattle.jbig2_coder.specs.QeTable.{qe_row};
 ghost use Rattle.jbig2_coder.specs.Coder.{fresh, fresh_contexts, byte_at, byte_in, renormd, initial_registers, choice, is_within, likely_next, unlikely_next, decision, all_quiet};
 ghost use Rattle.jbig2_coder.specs.inner.States.{Does};

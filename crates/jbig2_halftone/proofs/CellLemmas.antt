@@ -10,7 +10,7 @@ use Rattle.std.proofs.lemmas.List.FromFn.{get_or-map-range_with_len, length-map-
 use Rattle.std.proofs.lemmas.List.{drop-take, drop_all, take-append-drop, take-take, take_all}
 use Rattle.std.proofs.lemmas.Nat.{mul-add-lt, div-mul-add, mod-mul-add}
 use Rattle.std.proofs.Math.Seq.{drop-cons}
-use Rattle.jbig2_base.specs.Grid.{Grid, grid_of, blank, pixel, pixel_at}
+use Rattle.jbig2_base.specs.Grid.{Grid, grid_of, blank, pixel, pixel_at, IsTable}
 use Rattle.jbig2_base.specs.declared.error.DecodeError.{DecodeError}
 use Rattle.jbig2_base.specs.Combination.{combined_grid, drawn_pixel, is_below, combined_pixel}
 use Rattle.jbig2_base.specs.Writes.{with_pixel}
@@ -26,7 +26,6 @@ use Rattle.jbig2_halftone.proofs.RowLemmas.{take-some}
 use Rattle.jbig2_base.specs.Results.{◌>>=◌}
 use Rattle.std.specs.Prelude.{Result, int_le}
 use Rattle.jbig2_base.specs.declared.bitmap.operator.CombinationOperator.{CombinationOperator}
-use Rattle.jbig2_base.specs.Table.{IsTable}
 
 -- a place of a cell fits 32 bits once it is in whole pixels
 place-fits : (z o : ℤ) (a b : ℕ) → SFits w32 o → a < 2 ^ 32 → b < 2 ^ 32 → z ≡ o +ℤ pos a -ℤ pos b → SFits w32 (int_shr z 8)

@@ -6,8 +6,7 @@ use Rattle.std.specs.Prelude.{OnErr, OnOk}
 use Rattle.jbig2_base.specs.Grid.{Grid, blank}
 use Rattle.jbig2_halftone.specs.Halftone.{column_of, gray_params, row_of}
 use Rattle.jbig2_halftone.specs.HalftoneHeader.{HalftoneHeader}
-use Rattle.jbig2_halftone.specs.PatternHeader.{HasSize}
-use Rattle.jbig2_halftone.specs.Patterns.{Patterns}
+use Rattle.jbig2_halftone.specs.Patterns.{HasSize, Patterns}
 use Rattle.jbig2_halftone.specs.Steps.{CountsImage, CountsHalftone, StopsHalftone, after_mask, cell_words, words_of_cells}
 use Rattle.jbig2_halftone.specs.inner.FunctionResults.{StopsCells}
 use Rattle.std.proofs.Math.Nat.{mul-le-mul_left}

@@ -6,7 +6,8 @@ use Rattle.std.proofs.Math.Seq.{take-length}
 use Rattle.std.proofs.lemmas.List.FromFn.{length-map-range_with_len}
 use Rattle.jbig2_region.proofs.ContextLemmas.{number_of-lt}
 use Rattle.jbig2_halftone.specs.inner.NextValues.{next_value}
-use Rattle.jbig2_base.specs.Grid.{Grid, bit_number, pixel_at, differ}
+use Rattle.jbig2_base.specs.Grid.{Grid, pixel_at, differ}
+use Rattle.jbig2_base.specs.Bits.{bit_number}
 use Rattle.jbig2_region.specs.Generic.{number_of}
 use Rattle.jbig2_halftone.specs.GrayScale.{parity, gray_value, gray_values}
 

@@ -3,7 +3,7 @@ use Rattle.std.proofs.Common.{◌≡◌, ℕ, zero, suc, ◌+◌, ◌-◌, ◌*�
 use Rattle.std.proofs.lemmas.Bool.{cases_eq, cases_lt, ne_eqb}
 use Rattle.std.proofs.lemmas.Simd.{length-chunk, get_or-chunk, get_or-put_chunk_at, get_or-put_chunk_above, get_or-put_chunk_below, get_or-zip2, length-zip2}
 use Rattle.jbig2_base.proofs.BitLemmas.{bit-mod, bit-shr, bit_number-bit}
-use Rattle.jbig2_base.specs.Grid.{differ, Grid, bit_number, pixel_at}
+use Rattle.jbig2_base.specs.Grid.{differ, Grid, pixel_at}
 use Rattle.std.specs.Prelude.{if◌then◌else◌}
 use Rattle.std.specs.List.{All}
 use Rattle.std.specs.Int.Bits.{bit_xor}
@@ -12,7 +12,7 @@ use Rattle.std.proofs.lemmas.Grind.{get_or_default_zero}
 use Rattle.std.proofs.lemmas.Nat.Bits.{and_pow}
 use Rattle.std.proofs.lemmas.Nat.{pow_pos}
 use Rattle.jbig2_base.specs.Counts.{Counts}
-use Rattle.jbig2_base.specs.Bits.{bit}
+use Rattle.jbig2_base.specs.Bits.{bit, bit_number}
 use Rattle.jbig2_halftone.specs.inner.NextValues.{next_value}
 
 -- ---- eight lanes

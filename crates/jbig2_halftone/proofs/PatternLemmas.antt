@@ -15,8 +15,8 @@ use Rattle.jbig2_region.specs.inner.PixelArrays.{pixels_view}
 use Rattle.jbig2_region.specs.declared.template.GenericTemplatePixels.TheVariants.{Regular}
 use Rattle.jbig2_region.specs.declared.template.Template.{Template}
 use Rattle.jbig2_region.specs.declared.template.Template.TheVariants.{Template0, Template1, Template2, Template3}
-use Rattle.jbig2_halftone.specs.PatternHeader.{HasSize, PatternHeader}
-use Rattle.jbig2_halftone.specs.Patterns.{collective_header, collective_pixels, patterns_of}
+use Rattle.jbig2_halftone.specs.PatternHeader.{PatternHeader}
+use Rattle.jbig2_halftone.specs.Patterns.{collective_header, collective_pixels, HasSize, patterns_of}
 use Rattle.jbig2_halftone.specs.Steps.{StopsDictionary, TakesNoLanes, after_patterns, collective_made}
 use Rattle.jbig2_halftone.specs.inner.FunctionResults.{StopsCut, pattern_of, patterns_cut}
 

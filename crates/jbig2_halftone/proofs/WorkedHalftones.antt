@@ -10,13 +10,14 @@ use Rattle.jbig2_base.specs.declared.error.OverflowError.TheVariants.{BitmapDime
 use Rattle.jbig2_base.specs.declared.error.ParseError.TheVariants.{UnexpectedEof}
 use Rattle.jbig2_region.specs.RegionInfo.{PlacedRegion, region_info_at}
 use Rattle.jbig2_mmr.specs.T6Codes.{modes, longer_runs, white_runs, black_runs}
-use Rattle.jbig2_base.specs.Search.{least, code_length}
+use Rattle.jbig2_base.specs.Search.{least}
 use Rattle.jbig2_mmr.specs.T6.{read_code, run_from, is_change, is_change_from, b1_of, b2_of, after_pass, after_runs, after_vertical, next_step, row_from, black_at, ends_block, rows_from, rows_of, mmr_rows}
 use Rattle.jbig2_halftone.specs.GrayScale.{mmr_planes, gray_value, gray_values, gray_scale_image}
 use Rattle.jbig2_halftone.specs.Halftone.{cells_drawn, halftone_result, halftone_decoded}
 use Rattle.jbig2_halftone.specs.HalftoneHeader.{halftone_flags_at, halftone_grid_at, halftone_header_at}
 use Rattle.jbig2_halftone.specs.PatternHeader.{pattern_header_at}
 use Rattle.jbig2_halftone.specs.Patterns.{Patterns, patterns_of, patterns_decoded}
+use Rattle.jbig2_coder.specs.CodeLength.{code_length}
 
 dictionary : List ℕ → Result Patterns DecodeError
 dictionary bytes = pattern_header_at true bytes >>= λ h. patterns_decoded h.0

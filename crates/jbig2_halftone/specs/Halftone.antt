@@ -10,8 +10,8 @@ use Rattle.jbig2_base.specs.Grid.{Grid, grid_of, blank, max_side, check_sides}
 use Rattle.jbig2_base.specs.declared.error.DecodeError.{DecodeError}
 use Rattle.jbig2_base.specs.declared.error.DecodeError.TheVariants.{Region}
 use Rattle.jbig2_base.specs.declared.error.RegionError.TheVariants.{GrayScaleOutOfRange}
-use Rattle.jbig2_base.specs.Search.{code_length}
 use Rattle.jbig2_coder.specs.Coder.{Context}
+use Rattle.jbig2_coder.specs.CodeLength.{code_length}
 use Rattle.jbig2_region.specs.RegionInfo.{PlacedRegion, at_location}
 use Rattle.jbig2_halftone.specs.GrayScale.{GrayScale, gray_scale_image, gray_contexts}
 use Rattle.jbig2_halftone.specs.HalftoneHeader.{HalftoneHeader}

@@ -1,9 +1,8 @@
 -- The data of a pattern dictionary segment up to its coded bytes (T.88, 7.4.4): flags, a pattern's sides and GRAYMAX.
 -- The bytes give the header, and the coded bytes after it.
-use Rattle.std.specs.Prelude.{ℕ, ◌≡◌, ◌/◌, ◌%◌, ◌==◌, Bool, List, Result, Ok}
+use Rattle.std.specs.Prelude.{ℕ, ◌/◌, ◌%◌, ◌==◌, Bool, List, Result, Ok}
 use Rattle.std.specs.Int.{w8, w32}
 use Rattle.jbig2_base.specs.Results.{◌>>=◌, refuse_if}
-use Rattle.jbig2_base.specs.Grid.{Grid}
 use Rattle.jbig2_base.specs.Fields.{number_at, end_of_bytes}
 use Rattle.jbig2_base.specs.declared.error.DecodeError.{DecodeError}
 use Rattle.jbig2_region.specs.Templates.{template_of}
@@ -18,11 +17,6 @@ pub record PatternHeader : Type 0 where
   pub gray_max : ℕ
   pub bytes : List ℕ
   pub strict : Bool
-
--- a grid has the size of a pattern: HDPW columns and HDPH rows
-pub record HasSize (width height : ℕ) (grid : Grid) : Type 0 where
-  pub columns : grid.width ≡ width
-  pub rows : grid.height ≡ height
 
 -- a side of a pattern; 0 counts as a missing side (our own rule)
 abbrev pub side_at : List ℕ → Result (ℕ × List ℕ) DecodeError

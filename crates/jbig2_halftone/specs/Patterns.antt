@@ -1,7 +1,7 @@
 -- Pattern dictionaries (T.88, 6.7): the patterns lie side by side in one collective bitmap, a generic region. The
 -- header with the coded bytes gives the list of the patterns' grids, one for each gray value.
 use Rattle.std.specs.Prelude.{ℕ, ◌+◌, ◌*◌, nat_lt, Bool, true, false, if◌then◌else◌, List, [], ◌∷◌, drop, map}
-use Rattle.std.specs.Prelude.{Result, Ok}
+use Rattle.std.specs.Prelude.{Result, Ok, ◌≡◌}
 use Rattle.std.specs.List.{range_with_len}
 use Rattle.jbig2_base.specs.Results.{refuse_if, ◌>>=◌}
 use Rattle.jbig2_base.specs.Grid.{Grid, part_of, max_side}
@@ -72,3 +72,8 @@ module _ (h : PatternHeader) where
   abbrev pub dictionary_contexts : List Context → List Context
   dictionary_contexts contexts =
       if nat_lt max_side collective_width then contexts else contexts_after collective_header contexts
+
+-- a grid has the size of a pattern: HDPW columns and HDPH rows
+pub record HasSize (width height : ℕ) (grid : Grid) : Type 0 where
+  pub columns : grid.width ≡ width
+  pub rows : grid.height ≡ height

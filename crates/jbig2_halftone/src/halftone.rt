@@ -12,7 +12,6 @@ ghost use Rattle.jbig2_halftone.specs.GrayScale.{gray_scale_image};
 ghost use Rattle.jbig2_halftone.specs.Halftone.{gray_params, skip_mask, pattern_for, cells_drawn, halftone_result, halftone_contexts, halftone_decoded, decoded_contexts};
 ghost use Rattle.jbig2_halftone.specs.HalftoneHeader.{HalftoneHeader};
 ghost use Rattle.jbig2_halftone.specs.inner.HalftoneHeaderViews.{header_view};
-ghost use Rattle.jbig2_halftone.specs.PatternHeader.{HasSize};
 ghost use Rattle.jbig2_halftone.specs.inner.DictionaryViews.{dictionary_view};
 ghost use Rattle.jbig2_halftone.specs.Steps.{CountsImage, CountsHalftone, StopsHalftone, after_mask, cleared_by_cells, cleared_by_mask, words_of_cells, price_of_halftone};
 ghost use Rattle.jbig2_region.specs.Steps.{region_made};
@@ -20,6 +19,7 @@ ghost use Rattle.jbig2_halftone.specs.inner.CellPlaces.{x_of, y_of};
 ghost use Rattle.jbig2_halftone.specs.inner.FunctionResults.{skip_grid, StopsCells};
 ghost use Rattle.jbig2_base.specs.Causes.{HasCauseOrNoMemory};
 ghost use Rattle.jbig2_halftone.specs.Causes.{BreaksHalftone};
+ghost use Rattle.jbig2_halftone.specs.Patterns.{HasSize};
 
 mod cells;
 pub mod header;
@@ -31,9 +31,9 @@ use cells::{CellPlace, first_place, lies_outside, next_in_row, next_row, whole_p
 pub use header::{HalftoneRegionHeader, parse};
 use jbig2_base::bitmap::Bitmap;
 use jbig2_base::bitmap::operator::CombinationOperator;
-use jbig2_base::code_length::code_length;
 use jbig2_base::error::{DecodeError, RegionError, Result};
 use jbig2_coder::arithmetic_decoder::ArithmeticDecoderContext;
+use jbig2_coder::code_length::code_length;
 use jbig2_region::decoded_region::DecodedRegion;
 use jbig2_steps::Steps;
 pub use part::decode_part;

@@ -1,7 +1,6 @@
 //! Pattern dictionaries (T.88, 6.7 and 7.4.4): cuts the patterns out of one collective bitmap.
-ghost use Rattle.std.specs.Prelude.{◌≡◌, ◌+◌, ◌*◌, ◌/◌, ◌≤◌, ◌∷◌, drop, length, IfOk, OnErr, OnOk, Ok, Bool, true, false};
+ghost use Rattle.std.specs.Prelude.{◌≡◌, ◌+◌, ◌*◌, ◌/◌, ◌≤◌, ◌∷◌, drop, OnErr, OnOk, Ok, false};
 ghost use Rattle.jbig2_steps.specs.Work.{CountsWithin};
-ghost use Rattle.jbig2_base.specs.Bits.{start_of};
 ghost use Rattle.jbig2_base.specs.Grid.{max_side};
 ghost use Rattle.jbig2_base.specs.Results.{Returns, Gives, Leaves};
 ghost use Rattle.jbig2_base.specs.Counts.{KeepsLanes, bitmap_made, words_copied, words_made};
@@ -10,24 +9,23 @@ ghost use Rattle.jbig2_region.specs.GenericSteps.{CountsGeneric, price_of_region
 ghost use Rattle.jbig2_region.specs.Templates.{left, nominal_adaptive_pixels};
 ghost use Rattle.jbig2_region.specs.declared.template.Template.TheVariants.{Template0};
 ghost use Rattle.jbig2_region.specs.declared.template.GenericTemplatePixels.TheVariants.{Regular};
-ghost use Rattle.jbig2_halftone.specs.PatternHeader.{side_at, pattern_header_at};
 ghost use Rattle.jbig2_halftone.specs.Patterns.{collective_width, collective_header, patterns_of, patterns_decoded, dictionary_contexts};
 ghost use Rattle.jbig2_halftone.specs.inner.DictionaryViews.{dictionary_view};
 ghost use Rattle.jbig2_halftone.specs.inner.PatternHeaderViews.{header_view};
 ghost use Rattle.jbig2_halftone.specs.inner.FunctionResults.{pattern_of, patterns_cut, StopsCut};
 ghost use Rattle.jbig2_halftone.specs.Steps.{CountsDictionary, StopsDictionary, TakesNoLanes, collective_made, price_of_patterns};
-ghost use Rattle.jbig2_base.specs.Causes.{HasCause, HasCauseOrNoMemory};
-ghost use Rattle.jbig2_halftone.specs.Causes.{BreaksPatternHeader, BreaksPatterns};
+ghost use Rattle.jbig2_base.specs.Causes.{HasCauseOrNoMemory};
+ghost use Rattle.jbig2_halftone.specs.Causes.{BreaksPatterns};
 
 mod dictionary;
+mod header;
 
 pub use dictionary::PatternDictionary;
+pub use header::{PatternDictionaryHeader, parse};
 use jbig2_base::bitmap::operator::CombinationOperator;
 use jbig2_base::bitmap::part::Area;
 use jbig2_base::bitmap::{Bitmap, MAX_DIMENSION};
-use jbig2_base::error::{OverflowError, ParseError, Result};
-use jbig2_base::field::{byte_field, u32_field};
-use jbig2_base::reader::Reader;
+use jbig2_base::error::{OverflowError, Result};
 use jbig2_coder::arithmetic_decoder::ArithmeticDecoderContext;
 use jbig2_region::generic::{self, GenericRegionHeader};
 use jbig2_region::region_info::RegionSegmentInfo;
@@ -35,68 +33,6 @@ use jbig2_region::template::{AdaptiveTemplatePixel, GenericTemplatePixels, Templ
 use jbig2_steps::Steps;
 use std::alloc::Allocator;
 use std::sync::ledger::Ledger;
-
-/// What is needed to decode a pattern dictionary's coded bytes (T.88, 7.4.4).
-#[derive(Clone, Copy, Debug)]
-pub struct PatternDictionaryHeader<'a> {
-    /// Whether the bytes are coded with MMR, instead of the arithmetic coder.
-    pub mmr: bool,
-    pub template: Template,
-    /// In pixels.
-    pub pattern_width: u8,
-    /// In pixels.
-    pub pattern_height: u8,
-    /// GRAYMAX, the largest gray value: one less than the number of patterns.
-    pub num_patterns: u32,
-    /// The coded bytes.
-    pub bytes: &'a [u8],
-    /// Whether faulty MMR data is refused.
-    pub strict: bool,
-}
-
-/// Reads a side of a pattern, which must not be 0.
-fn side_field(reader: &mut Reader<'_>) -> Result<u8>
-    ensures value { Returns (λ x. (x, reader.new.bytes)) result (side_at reader.old.bytes) }
-    ensures some { IfOk result (λ x. 1 ≤ x) }
-{
-    let side = byte_field(reader)?;
-    if side == 0 {
-        return Err(ParseError::UnexpectedEof.into());
-    }
-    Ok(side)
-}
-
-/// Reads the header of a pattern dictionary (T.88, 7.4.4). The reader is then at the coded bytes,
-/// which the header holds too.
-///
-/// Returns `ParseError::UnexpectedEof` where the bytes do not hold the header, or where a pattern
-/// has no pixels. An error leaves the reader where it was. It takes no memory.
-#[tactic(auto, unfolding(crate::specs::PatternHeader::pattern_header_at))]
-pub fn parse<'a>(reader: &mut Reader<'a>, strict: bool) -> Result<PatternDictionaryHeader<'a>>
-    ensures value { Returns (λ h. (header_view h, reader.new.bytes)) result
-        (pattern_header_at strict reader.old.bytes) }
-    ensures width { IfOk result (λ h. 1 ≤ h.pattern_width) }
-    ensures height { IfOk result (λ h. 1 ≤ h.pattern_height) }
-    ensures place { OnOk result (reader.new ≡ start_of reader.new.bytes) }
-    ensures stays { OnErr result (reader.new ≡ reader.old) }
-    ensures causes { HasCause result (BreaksPatternHeader reader.old.bytes) }
-{
-    let mut ahead = reader.duplicate();
-    let flags = byte_field(&mut ahead)?;
-    let pattern_width = side_field(&mut ahead)?;
-    let pattern_height = side_field(&mut ahead)?;
-    let gray_max = u32_field(&mut ahead)?;
-    *reader = ahead;
-    Ok(PatternDictionaryHeader {
-        mmr: flags % 2 == 1,
-        template: Template::from_byte(flags / 2),
-        pattern_width,
-        pattern_height,
-        num_patterns: gray_max,
-        bytes: reader.tail(),
-        strict,
-    })
-}
 
 /// The adaptive pixels of a collective bitmap: A1 lies one pattern to the left, the others where they lie by default
 /// (T.88, Table 27).

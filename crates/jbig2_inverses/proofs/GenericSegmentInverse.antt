@@ -6,8 +6,9 @@ use Rattle.std.proofs.lemmas.Bool.{cond-true, cond-false, or_from}
 use Rattle.std.proofs.lemmas.Nat.{from_be_bytes-to_be_bytes_4}
 use Rattle.jbig2_base.specs.Results.{◌>>=◌, refuse_if}
 use Rattle.jbig2_base.specs.Fields.{number_at, signed_at, end_of_bytes}
-use Rattle.jbig2_base.specs.Grid.{bit_number, max_side, check_sides}
+use Rattle.jbig2_base.specs.Grid.{max_side, check_sides}
 use Rattle.jbig2_base.specs.Combination.{operator_of}
+use Rattle.jbig2_base.specs.Bits.{bit_number}
 use Rattle.jbig2_base.specs.declared.bitmap.operator.CombinationOperator.{CombinationOperator}
 use Rattle.jbig2_base.specs.declared.bitmap.operator.CombinationOperator.TheVariants.{Or, And, Xor, Xnor, Replace}
 use Rattle.jbig2_base.specs.declared.error.DecodeError.{DecodeError}

@@ -7,9 +7,8 @@ use Rattle.std.proofs.lemmas.Bool.{cond-false}
 use Rattle.std.proofs.lemmas.List.{take_at, drop_at}
 use Rattle.std.proofs.lemmas.Nat.{from_be_bytes-to_be_bytes_2}
 use Rattle.jbig2_base.specs.Results.{◌>>=◌, refuse_if}
-use Rattle.jbig2_base.specs.Bits.{nonzero}
+use Rattle.jbig2_base.specs.Bits.{bit_number, nonzero}
 use Rattle.jbig2_base.specs.Fields.{bytes_at, number_at, end_of_bytes}
-use Rattle.jbig2_base.specs.Grid.{bit_number}
 use Rattle.jbig2_framing.specs.PageInfo.{default_operator_of, flags_of, is_set, information_at}
 use Rattle.jbig2_framing.specs.Reading.{is_strict}
 use Rattle.jbig2_framing.specs.Segment.{Header, SegmentView, type_of, is_reserved, is_immediate_generic, long_count_at, count_at, number_width, numbers_in, referred_at, length_of, header_at, data_at, segment_data_at, segment_at}

@@ -4,7 +4,6 @@ use Rattle.std.specs.Prelude.{◌≡◌, ℕ, ◌+◌, ◌*◌, ◌^◌, ◌<◌
 use Rattle.std.specs.Prelude.{is_none}
 use Rattle.std.specs.List.{flat_map}
 use Rattle.std.specs.Int.{w32, to_be_bytes}
-use Rattle.jbig2_base.specs.Grid.{bit_number}
 use Rattle.jbig2_framing.specs.File.{file_at, identification}
 use Rattle.jbig2_framing.specs.Reading.{is_strict}
 use Rattle.jbig2_framing.specs.Segment.{SegmentView}
@@ -14,6 +13,7 @@ use Rattle.jbig2_framing.specs.declared.file_header.FileOrganization.{FileOrgani
 use Rattle.jbig2_framing.specs.declared.file_header.FileOrganization.TheVariants.{Sequential, RandomAccess}
 use Rattle.jbig2_framing.specs.declared.reading.Reading.{Reading}
 use Rattle.jbig2_inverses.specs.SegmentWriter.{AreSegments, segment_bytes}
+use Rattle.jbig2_base.specs.Bits.{bit_number}
 
 abbrev pub is_sequential : FileOrganization → Bool
 is_sequential Sequential = true

@@ -4,7 +4,6 @@ use Rattle.std.specs.Prelude.{◌≡◌, ℕ, ◌+◌, ◌*◌, ◌^◌, ◌<◌
 use Rattle.std.specs.Prelude.{Option, Some, None, Ok}
 use Rattle.std.specs.List.{flat_map}
 use Rattle.std.specs.Int.{w16, w32, to_be_bytes}
-use Rattle.jbig2_base.specs.Grid.{bit_number}
 use Rattle.jbig2_framing.specs.PageInfo.{information_at}
 use Rattle.jbig2_framing.specs.Reading.{is_strict}
 use Rattle.jbig2_framing.specs.Segment.{Header, SegmentView, is_reserved}
@@ -17,6 +16,7 @@ use Rattle.jbig2_framing.specs.declared.reading.Reading.{Reading}
 use Rattle.jbig2_framing.specs.declared.segment.SegmentType.{SegmentType}
 use Rattle.jbig2_framing.specs.declared.segment.SegmentType.TheVariants as types
 use Rattle.jbig2_inverses.specs.GenericSegmentWriter.{operator_number}
+use Rattle.jbig2_base.specs.Bits.{bit_number}
 
 abbrev pub type_number : SegmentType → ℕ  -- 7.3; one of the numbers that have no meaning
 type_number types.SymbolDictionary = 0

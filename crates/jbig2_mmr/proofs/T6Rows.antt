@@ -7,13 +7,12 @@ use Rattle.std.proofs.lemmas.List.Elements.{filter-append}
 use Rattle.std.proofs.lemmas.Bool.{true≢false, cases_eq, cases_lt, cond-true, cond-false, and_from, and_left, and_right, le-leb, lt-leb, eq-eqb, ne_eqb}
 use Rattle.jbig2_base.specs.Grid.{Grid, pixel_at}
 use Rattle.jbig2_base.specs.Colour.{IsFirst}
-use Rattle.jbig2_base.specs.Table.{IsTable}
 use Rattle.jbig2_base.proofs.GridLemmas.{pixel_at-below}
 use Rattle.jbig2_base.proofs.SearchLemmas.{place-is, place-past}
 use Rattle.jbig2_mmr.specs.declared.mmr.codes.Mode.{Mode}
 use Rattle.jbig2_mmr.specs.declared.mmr.row.Turn.{Turn}
 use Rattle.jbig2_base.specs.Search.{place_from}
-use Rattle.jbig2_base.specs.Grid.{differ}
+use Rattle.jbig2_base.specs.Grid.{differ, IsTable}
 use Rattle.jbig2_mmr.specs.T6.{left_of, is_change, Head, Step, b1_of, b2_of, run, after_pass, after_runs, after_vertical, place_in, after_mode, next_step, read_code, row_from, row_start, black_at, ◌>>=◌}
 use Rattle.jbig2_mmr.specs.T6Codes.{modes}
 use Rattle.jbig2_mmr.specs.inner.T6Reading.{row_above, pixels_of_row, IsSpan, IsTurn, ReadRun}

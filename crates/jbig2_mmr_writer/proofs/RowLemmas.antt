@@ -1,8 +1,7 @@
 -- A row mode by mode, and a bitmap row by row.
 use Rattle.std.proofs.Common.{◌≡◌, ℕ, zero, suc, ◌+◌, ◌-◌, ◌/◌, ◌<◌, ◌≤◌, leb, ltb, Bool, false, cond, ◌&&◌, List, [], ◌++◌, length, Ok, sym, ◌∙◌, ap, ⊎_elim, append_assoc, append-nil, arith, lt-ltb, le-ltb, le-leb}
 use Rattle.std.proofs.lemmas.Bool.{cases_lt, cond-true, cond-false, lt-leb}
-use Rattle.jbig2_base.specs.Grid.{Grid, pixel_at}
-use Rattle.jbig2_base.specs.Table.{IsTable}
+use Rattle.jbig2_base.specs.Grid.{Grid, IsTable, pixel_at}
 use Rattle.jbig2_base.proofs.GridLemmas.{pixel_at-right}
 use Rattle.jbig2_mmr.specs.T6.{Head, mmr_rows, row_start}
 use Rattle.jbig2_mmr.specs.inner.T6Reading.{row_above, pixels_of_row}

@@ -2,9 +2,9 @@
 use Rattle.std.proofs.Common.{◌≡◌, ℕ, zero, suc, ◌+◌, ◌-◌, eqb, nat_le, nat_lt, Bool, true, false, not, ◌||◌, ℤ, pos, ◌+ℤ◌, List, [], ◌∷◌, ◌++◌, length, sum, Option, Result, Ok, refl, sym}
 use Rattle.std.specs.Int.{w16, w32}
 use Rattle.jbig2_base.specs.Results.{◌>>=◌, refuse_if}
-use Rattle.jbig2_base.specs.Bits.{Place}
+use Rattle.jbig2_base.specs.Bits.{bit_number, Place}
 use Rattle.jbig2_base.specs.Fields.{bytes_at, number_at}
-use Rattle.jbig2_base.specs.Grid.{Grid, bit_number, blank, wide_or_overflow}
+use Rattle.jbig2_base.specs.Grid.{Grid, blank, wide_or_overflow}
 use Rattle.jbig2_base.specs.declared.error.DecodeError.{DecodeError}
 use Rattle.jbig2_base.specs.declared.error.DecodeError.TheVariants.{Huffman, Overflow, Symbol}
 use Rattle.jbig2_base.specs.declared.error.HuffmanError.TheVariants.{UnexpectedOob}

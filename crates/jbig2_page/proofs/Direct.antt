@@ -6,9 +6,8 @@ use Rattle.std.proofs.lemmas.Bool.{cond-true, and_from, le-ltb, lt-ltb, ltb-fals
 use Rattle.std.proofs.lemmas.Int.{ints}
 use Rattle.jbig2_base.specs.Results.{Gives, ◌>>=◌, refuse_if}
 use Rattle.jbig2_base.specs.Combination.{combined_grid, drawn_pixel, is_below, combined_pixel}
-use Rattle.jbig2_base.specs.Grid.{Grid, pixel_at, pixel, blank, check_sides, grid_of}
+use Rattle.jbig2_base.specs.Grid.{Grid, pixel_at, pixel, blank, check_sides, grid_of, IsTable}
 use Rattle.jbig2_framing.specs.Segment.{SegmentView}
-use Rattle.jbig2_base.specs.Table.{IsTable}
 use Rattle.jbig2_base.specs.declared.bitmap.operator.CombinationOperator.{CombinationOperator}
 use Rattle.jbig2_base.specs.declared.bitmap.operator.CombinationOperator.TheVariants.{Or, And, Xor, Xnor, Replace}
 use Rattle.jbig2_base.specs.declared.error.DecodeError.{DecodeError}

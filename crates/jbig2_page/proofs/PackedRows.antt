@@ -5,8 +5,8 @@ use Rattle.std.proofs.lemmas.List.FromFn.{length-map-range_with_len, take-map-ra
 use Rattle.std.specs.List.{range_with_len}
 use Rattle.jbig2_base.specs.Results.{◌>>=◌}
 use Rattle.jbig2_base.specs.declared.error.DecodeError.{DecodeError}
-use Rattle.jbig2_base.specs.Grid.{Grid, pixel_at, bit_number}
-use Rattle.jbig2_base.specs.Bits.{bit}
+use Rattle.jbig2_base.specs.Grid.{Grid, pixel_at}
+use Rattle.jbig2_base.specs.Bits.{bit, bit_number}
 use Rattle.jbig2_base.proofs.BitLemmas.{bit_number-bit, bit-shr}
 use Rattle.jbig2_base.proofs.GridLemmas.{pixel_at-below, pixel_at-grid_of, pixel_at-right}
 use Rattle.jbig2_coder.specs.Integers.{value_of_bits}

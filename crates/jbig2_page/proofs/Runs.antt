@@ -5,8 +5,8 @@ use Rattle.std.proofs.lemmas.List.{append_assoc, take_all, length-take-le, lengt
 use Rattle.std.proofs.lemmas.List.FromFn.{take-map-range_with_len, length-map-range_with_len}
 use Rattle.std.proofs.lemmas.Nat.Bits.{same_from_bits_below}
 use Rattle.std.specs.List.{range_with_len, flat_map}
-use Rattle.jbig2_base.specs.Grid.{Grid, pixel_at, bit_number, same_colour}
-use Rattle.jbig2_base.specs.Bits.{bit}
+use Rattle.jbig2_base.specs.Grid.{Grid, pixel_at, same_colour}
+use Rattle.jbig2_base.specs.Bits.{bit, bit_number}
 use Rattle.jbig2_base.specs.Colour.{IsFirst}
 use Rattle.jbig2_base.proofs.BitLemmas.{bit-ones, bit-zero, bit_number-bit}
 use Rattle.jbig2_page.specs.Calls.{Call, Pixel, Chunk, Line, is_all, singles, with_whole, with_byte, whole_calls, row_of_grid, line_calls, calls_of}

@@ -11,8 +11,8 @@ pub mod Order
 pub mod OtherSegments
 pub mod Page
 pub mod PassedOver
-pub mod Prices
 pub mod Regions
 pub mod Returned
+pub mod SegmentPrices
 pub mod SharedWork
 pub mod inner

@@ -9,7 +9,7 @@ ghost use Rattle.jbig2_base.specs.declared.error.DecodeError.TheVariants.{OutOfM
 ghost use Rattle.jbig2_region.specs.inner.RegionViews.{region_view};
 ghost use Rattle.jbig2_page.specs.inner.KeptViews.{kept_values};
 ghost use Rattle.jbig2_page.specs.inner.ParsedRegions.{drawing_of};
-ghost use Rattle.jbig2_page.specs.Prices.{drawn_count};
+ghost use Rattle.jbig2_page.specs.SegmentPrices.{drawn_count};
 ghost use Rattle.jbig2_page.specs.PassedOver.{nothing_passed};
 ghost use Rattle.jbig2_steps.specs.Work.{Paid, budget};
 ghost use Rattle.jbig2_steps.specs.declared.prices.TheConstants as prices;

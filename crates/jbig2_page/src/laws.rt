@@ -2,8 +2,7 @@
 //! which holds for all bytes.
 ghost use Rattle.std.specs.Prelude.{◌≡◌, Bool, IsTrue, pos};
 ghost use Rattle.jbig2_base.specs.Combination.{combined_grid};
-ghost use Rattle.jbig2_base.specs.Grid.{Grid, blank};
-ghost use Rattle.jbig2_base.specs.Table.{IsTable};
+ghost use Rattle.jbig2_base.specs.Grid.{Grid, blank, IsTable};
 ghost use Rattle.jbig2_base.specs.declared.bitmap.operator.CombinationOperator.{CombinationOperator};
 ghost use Rattle.jbig2_page.specs.Calls.{CallsAreFew, ChunksFit, DrawsGrid, calls_of};
 ghost use Rattle.jbig2_page.specs.Causes.{ErrorsAreFromInput};

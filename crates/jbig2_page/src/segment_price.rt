@@ -2,7 +2,7 @@
 ghost use Rattle.std.specs.Prelude.{◌≡◌, ◌+◌, ◌*◌, ◌≤◌, IfErr, IfOk};
 ghost use Rattle.jbig2_base.specs.declared.error.DecodeError.TheVariants.{OutOfMemory};
 ghost use Rattle.jbig2_framing.specs.inner.SegmentViews.{segment_view};
-ghost use Rattle.jbig2_page.specs.Prices.{capped, price_of_segment, price_of_type};
+ghost use Rattle.jbig2_page.specs.SegmentPrices.{capped, price_of_segment, price_of_type};
 ghost use Rattle.jbig2_steps.specs.Work.{Paid, budget};
 ghost use Rattle.jbig2_steps.specs.declared.prices.TheConstants as prices;
 

@@ -4,8 +4,8 @@ use Rattle.std.proofs.lemmas.Int.{ints}
 use Rattle.std.proofs.lemmas.List.{length-map, map-append}
 use Rattle.std.proofs.lemmas.Nat.{mod-pow-add, shr-shr, mul-add-lt, pow-add}
 use Rattle.std.proofs.Math.Nat.{pow-le-pow_right}
-use Rattle.jbig2_base.specs.Grid.{Grid, pixel, bit_number}
-use Rattle.jbig2_base.specs.Bits.{bit}
+use Rattle.jbig2_base.specs.Grid.{Grid, pixel}
+use Rattle.jbig2_base.specs.Bits.{bit, bit_number}
 use Rattle.jbig2_base.proofs.BitLemmas.{bit_number-bit}
 use Rattle.jbig2_region.specs.Generic.{number_of, context_at}
 use Rattle.jbig2_region.specs.inner.Neighbours.{side_by_side}

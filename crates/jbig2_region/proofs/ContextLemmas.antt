@@ -3,7 +3,8 @@ use Rattle.std.proofs.Common.{pow-suc, subst, pos, ◌+ℤ◌, ◌≡◌, ℕ, �
 use Rattle.std.proofs.Math.Seq.{drop-cons, drop-length}
 use Rattle.std.proofs.lemmas.List.{length-drop, length-map}
 use Rattle.std.proofs.Math.Nat.{pow-le-pow_right}
-use Rattle.jbig2_base.specs.Grid.{Grid, pixel, bit_number}
+use Rattle.jbig2_base.specs.Grid.{Grid, pixel}
+use Rattle.jbig2_base.specs.Bits.{bit_number}
 use Rattle.jbig2_region.specs.Generic.{number_of, context_at}
 use Rattle.jbig2_region.specs.declared.template.AdaptiveTemplatePixel.{AdaptiveTemplatePixel}
 

@@ -3,7 +3,8 @@ use Rattle.std.proofs.Common.{subst, ◌≡◌, ℕ, zero, suc, ◌+◌, ◌*◌
 use Rattle.std.proofs.Math.Bool.{or-false}
 use Rattle.std.proofs.lemmas.Bool.{cases_eq, cases_lt, eq-eqb, ne_eqb, lt-ltb, le-ltb, and_left, and_right}
 use Rattle.std.proofs.lemmas.Nat.{mod-mul-add}
-use Rattle.jbig2_base.specs.Grid.{Grid, bit_number}
+use Rattle.jbig2_base.specs.Grid.{Grid}
+use Rattle.jbig2_base.specs.Bits.{bit_number}
 use Rattle.jbig2_coder.specs.Coder.{Coder, Context}
 use Rattle.jbig2_region.specs.inner.Neighbours.{DecodesPixels, nominal_pixels, optional_pixels, row_coding}
 use Rattle.jbig2_region.specs.Raster.{Region}

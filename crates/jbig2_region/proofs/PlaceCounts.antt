@@ -1,6 +1,5 @@
 -- Counts over raster places are those by rows.
 use Rattle.std.proofs.Common.{◌≡◌, ℕ, zero, suc, ◌+◌, ◌*◌, ◌<◌, Bool, true, false, not, ◌&&◌, cond, List, length, Option, None, refl, sym, ap, ◌∙◌, arith}
-use Rattle.jbig2_base.specs.Grid.{bit_number}
 use Rattle.jbig2_region.specs.Steps.{how_many, pixel_decisions, takes_decision}
 use Rattle.jbig2_region.specs.Generic.{context_at, known_colour}
 use Rattle.jbig2_region.specs.Raster.{Coding, Region, after_pixel, at_pixel, after_ltp}
@@ -11,6 +10,7 @@ use Rattle.jbig2_region.specs.inner.Rows.{after_pixels, after_rows}
 use Rattle.jbig2_region.specs.declared.template.AdaptiveTemplatePixel.{AdaptiveTemplatePixel}
 use Rattle.jbig2_region.proofs.PlaceLemmas.{place-in-rows}
 use Rattle.jbig2_region.proofs.RasterLemmas.{after_pixels-predicted}
+use Rattle.jbig2_base.specs.Bits.{bit_number}
 
 -- ---- a coding with its rows' context, or without
 abbrev pub coding_with : List AdaptiveTemplatePixel → Option ℕ → Coding

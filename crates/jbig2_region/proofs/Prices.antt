@@ -3,7 +3,7 @@ use Rattle.std.specs.Prelude.{if◌then◌else◌}
 use Rattle.std.proofs.Common.{◌≡◌, ℕ, zero, suc, ◌+◌, ◌*◌, ◌≤◌, Bool, true, false, List, Option, Some, None, ap, arith}
 use Rattle.std.proofs.Math.Nat.{mul-le-mul_left}
 use Rattle.jbig2_base.specs.Counts.{Counts}
-use Rattle.jbig2_base.specs.Grid.{bit_number}
+use Rattle.jbig2_base.specs.Bits.{bit_number}
 use Rattle.jbig2_steps.specs.Work.{paid_words, sum_of_counts, price_of_bitmap, words_of_row}
 use Rattle.jbig2_steps.proofs.WorkLemmas.{room-paid}
 use Rattle.jbig2_region.specs.Raster.{Coding, Region, row_decisions, source}

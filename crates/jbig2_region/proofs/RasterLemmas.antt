@@ -5,9 +5,10 @@ use Rattle.std.proofs.Math.Bool.{or-false}
 use Rattle.std.proofs.lemmas.Bool.{cases_eq, cases_lt, eq-eqb, ne_eqb, and_left, and_right}
 use Rattle.std.proofs.lemmas.List.{get_or_append_left, get_or_past}
 use Rattle.std.proofs.lemmas.Nat.{same_from_place, mod-mul-add, div-mul-add}
-use Rattle.jbig2_base.specs.Grid.{Grid, grid_of, blank, pixel_at, bit_number, differ}
+use Rattle.jbig2_base.specs.Grid.{Grid, grid_of, blank, pixel_at, differ}
 use Rattle.jbig2_base.specs.Writes.{with_pixel}
 use Rattle.jbig2_base.proofs.GridLemmas.{grid_of-ext, pixel_at-grid_of}
+use Rattle.jbig2_base.specs.Bits.{bit_number}
 use Rattle.jbig2_region.specs.Raster.{Coding, Region, so_far, with_next, after_pixel, after_ltp, no_pixels}
 use Rattle.jbig2_region.specs.inner.Rows.{after_pixels, after_rows}
 use Rattle.jbig2_region.specs.inner.RegionStates.{HasDecoded, BeginsRow, region_state}

@@ -1,8 +1,9 @@
 -- Blocks, rows and regions of refinements whose pixels come from windows.
 use Rattle.std.proofs.Common.{pow-suc, add-one, subst, ◌≡◌, ℕ, ◌+◌, ◌*◌, ◌%◌, ◌^◌, ◌<◌, ◌≤◌, Bool, true, false, List, refl, sym, ap, ◌∙◌, arith}
 use Rattle.jbig2_base.specs.Counts.{Counts}
-use Rattle.jbig2_base.specs.Grid.{Grid, bit_number}
+use Rattle.jbig2_base.specs.Grid.{Grid}
 use Rattle.jbig2_base.specs.Writes.{with_pixels}
+use Rattle.jbig2_base.specs.Bits.{bit_number}
 use Rattle.jbig2_coder.specs.Coder.{Coder, Context}
 use Rattle.jbig2_region.specs.Refinement.{Reference, refinement_coding}
 use Rattle.jbig2_region.specs.inner.DecodedPixels.{DecodesPart, CountsPart, TakesPixel}

@@ -6,8 +6,7 @@ use Rattle.std.proofs.lemmas.Bool.Decides.{nat_tests}
 use Rattle.std.specs.Int.RustNames.{bit_or}
 use Rattle.std.specs.Int.Count.{count_leading_zeros}
 use lib.Bits.{bit_and}
-use Rattle.jbig2_base.specs.Grid.{bit_number}
-use Rattle.jbig2_base.specs.Bits.{bit}
+use Rattle.jbig2_base.specs.Bits.{bit, bit_number}
 use Rattle.jbig2_base.proofs.BitLemmas.{bit-and, bit-not, bit-or, bit-shl_high, bit-shr, bit-zero, bit_number-bit}
 use Rattle.jbig2_base.proofs.ColourLemmas.{leading-is}
 use Rattle.jbig2_region.specs.inner.RefinementBlocks.{IsUnknown}

@@ -6,7 +6,7 @@ use Rattle.std.proofs.lemmas.Bool.{cases_Bool, cond-true}
 use Rattle.std.proofs.lemmas.List.{append-nil, length-map}
 use Rattle.std.specs.List.{list_all}
 use Rattle.jbig2_base.specs.Counts.{Counts}
-use Rattle.jbig2_base.specs.Grid.{Grid, blank, bit_number}
+use Rattle.jbig2_base.specs.Grid.{Grid, blank}
 use Rattle.jbig2_region.specs.{Generic.{number_of, region_pixel, context_at}, RegionInfo.{PlacedRegion}}
 use Rattle.jbig2_region.specs.Refinement.{Reference, reference_pixel, refined_context, nine, common_colour, refinement_coding, refined_region, refined_grid, refined_result, refined_contexts, reference_of, offset, is_far}
 use Rattle.jbig2_region.specs.RefinementHeader.{RefinementHeader}
@@ -20,6 +20,7 @@ use Rattle.jbig2_base.specs.Results.{◌>>=◌, refuse_if}
 use Rattle.jbig2_base.specs.declared.error.DecodeError.{DecodeError}
 use Rattle.jbig2_region.proofs.ContextLemmas.{number_of-lt}
 use Rattle.jbig2_base.proofs.Causes.{same-ok}
+use Rattle.jbig2_base.specs.Bits.{bit_number}
 use Rattle.jbig2_region.proofs.GenericLemmas.{fresh-decoded}
 use Rattle.jbig2_region.specs.declared.template.AdaptiveTemplatePixel.{AdaptiveTemplatePixel}
 

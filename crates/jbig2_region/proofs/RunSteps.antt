@@ -4,8 +4,8 @@ use Rattle.std.proofs.lemmas.Bool.{and_from, and_left, and_parts, eqb-true, true
 use Rattle.std.proofs.lemmas.Int.{ints}
 use Rattle.std.proofs.lemmas.List.{append-nil, length-replicate, replicate-append-replicate, set-get_or}
 use Rattle.std.proofs.Math.Nat.{pow-le-pow_right}
-use Rattle.jbig2_base.specs.Grid.{Grid, bit_number, same_colour}
-use Rattle.jbig2_base.specs.Bits.{bit}
+use Rattle.jbig2_base.specs.Grid.{Grid, same_colour}
+use Rattle.jbig2_base.specs.Bits.{bit, bit_number}
 use Rattle.jbig2_base.specs.Writes.{with_pixel, with_pixels}
 use Rattle.jbig2_coder.specs.Coder.{Coder, Context, Decision, Registers, decision, fresh, is_quiet, all_quiet}
 use Rattle.jbig2_coder.specs.QeTable.{qe_row}

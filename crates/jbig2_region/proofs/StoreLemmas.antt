@@ -4,8 +4,8 @@ use Rattle.std.proofs.lemmas.Bool.{cases_eq, cases_lt, eq-eqb, ne_eqb, cond-true
 use Rattle.std.proofs.lemmas.Int.{ints}
 use Rattle.std.proofs.lemmas.List.{get_or_past, get_or_default}
 use Rattle.std.proofs.lemmas.Nat.{shr-shr}
-use Rattle.jbig2_base.specs.Grid.{Grid, pixel, pixel_at, bit_number}
-use Rattle.jbig2_base.specs.Bits.{bit}
+use Rattle.jbig2_base.specs.Grid.{Grid, pixel, pixel_at}
+use Rattle.jbig2_base.specs.Bits.{bit, bit_number}
 use Rattle.jbig2_base.specs.Writes.{with_pixel, with_pixels}
 use Rattle.jbig2_base.proofs.BitLemmas.{bit-mod, bit-zero, bit_number-bit, or-false}
 use Rattle.jbig2_base.proofs.GridLemmas.{grid_of-ext, pixel_at-grid_of, pixel_at-right, pixel_at-below, table-at}

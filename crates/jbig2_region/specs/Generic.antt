@@ -4,7 +4,8 @@
 use Rattle.std.specs.Prelude.{ℕ, ◌+◌, ◌*◌, Bool, false, if◌then◌else◌, List, [], ◌∷◌, map, Option, Some, None, pos}
 use Rattle.std.specs.Prelude.{negsuc, ◌+ℤ◌, Result, Ok}
 use Rattle.jbig2_base.specs.Results.{◌>>=◌}
-use Rattle.jbig2_base.specs.Grid.{Grid, pixel, pixel_at, bit_number}
+use Rattle.jbig2_base.specs.Grid.{Grid, pixel, pixel_at}
+use Rattle.jbig2_base.specs.Bits.{bit_number}
 use Rattle.jbig2_base.specs.declared.error.DecodeError.{DecodeError}
 use Rattle.jbig2_coder.specs.Coder.{Context, initial_registers}
 use Rattle.jbig2_mmr.specs.T6.{mmr_rows, grid_of_rows, rows_of}

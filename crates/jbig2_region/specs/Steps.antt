@@ -3,7 +3,8 @@
 use Rattle.std.specs.Prelude.{◌≡◌, ℕ, zero, suc, ◌+◌, ◌-◌, ◌*◌, ◌/◌, ◌%◌, ◌≤◌, ◌==◌, Bool, false, true, not, ◌&&◌, ◌||◌}
 use Rattle.std.specs.Prelude.{nat_lt, if◌then◌else◌, List, ◌++◌, length, replicate, slice_index_or, is_none, Option}
 use Rattle.jbig2_base.specs.Counts.{Counts, KeepsLanes, bitmap_made}
-use Rattle.jbig2_base.specs.Grid.{bit_number, same_colour, Grid}
+use Rattle.jbig2_base.specs.Grid.{same_colour, Grid}
+use Rattle.jbig2_base.specs.Bits.{bit_number}
 use Rattle.jbig2_coder.specs.Coder.{fresh, all_quiet, initial_registers}
 use Rattle.jbig2_region.specs.Generic.{context_at, number_of, is_skipped}
 use Rattle.jbig2_region.specs.Raster.{Coding, Region, Source, source, so_far, at_pixel, no_pixels}

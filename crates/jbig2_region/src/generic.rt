@@ -1,5 +1,5 @@
 //! Reads and decodes generic regions (T.88, 6.2 and 7.4.6).
-ghost use Rattle.std.specs.Prelude.{◌≡◌, ◌≤◌, ◌^◌, length, max, OnErr, OnOk, Ok, true, false};
+ghost use Rattle.std.specs.Prelude.{◌≡◌, OnErr, OnOk, Ok, true, false};
 ghost use Rattle.jbig2_steps.specs.Work.{CountsBeside, CountsWithin, paid_words};
 ghost use Rattle.jbig2_base.specs.Results.{Gives, Leaves};
 ghost use Rattle.jbig2_base.specs.Counts.{KeepsLanes};
@@ -10,12 +10,11 @@ ghost use Rattle.jbig2_region.specs.GenericSteps.{CountsGeneric, price_of_region
 ghost use Rattle.jbig2_region.specs.Steps.{region_made};
 ghost use Rattle.jbig2_region.specs.GenericHeader.{IsParsed};
 ghost use Rattle.jbig2_region.specs.inner.GenericHeaderViews.{header_view};
-ghost use Rattle.jbig2_region.specs.WholeRows.{whole_generic_rows};
 
 pub mod header;
+mod part;
 
 pub use crate::decoded_region::DecodedRegion;
-use crate::generic_coding::count_coded_rows;
 pub use crate::generic_coding::{count_regular_rows, decode_coded};
 pub use crate::template::adaptive::parse_adaptive_template_pixels;
 pub use header::{GenericRegionHeader, parse};
@@ -26,6 +25,7 @@ use jbig2_coder::arithmetic_decoder::{
 };
 use jbig2_mmr::mmr;
 use jbig2_steps::Steps;
+pub use part::whole_rows;
 use std::alloc::Allocator;
 use std::sync::ledger::Ledger;
 
@@ -101,43 +101,4 @@ pub fn decode<A: Allocator, B: Allocator, L: Ledger>(
     let mut bitmap = Bitmap::new(alloc, region_info.width, region_info.height, steps)?;
     decode_into(header, &mut bitmap, contexts, steps)?;
     Ok(DecodedRegion::new(region_info, bitmap))
-}
-
-/// How many rows of a region are whole: its data had not ended when the row was decoded, and MMR data
-/// had no fault before its end. A region without columns has all its rows. Decodes the rows into a
-/// bitmap of its own. The counts are within the price of a region.
-///
-/// `OutOfMemory` if there is no memory for the bitmap or the contexts. `contexts` then hold any state.
-pub fn whole_rows<A: Allocator, B: Allocator, L: Ledger>(
-    alloc: A,
-    header: &GenericRegionHeader<'_>,
-    contexts: &mut Vec<ArithmeticDecoderContext, B>,
-    steps: &mut Steps<L>,
-) -> Result<u32>
-    requires { IsParsed (header_view header.now) }
-    ensures value { Gives (λ rows. rows) result (Ok (whole_generic_rows (header_view header.now))) }
-    ensures few { OnOk result
-        (length contexts.new.items ≤ max (length contexts.old.items) (2 ^ 16)) }
-    ensures paid { CountsWithin (price_of_region (header_view header.now)) steps.old steps.new }
-{
-    let region_info = &header.region_info;
-    if region_info.width == 0 {
-        return Ok(region_info.height);
-    }
-    let mut bitmap = Bitmap::new(alloc, region_info.width, region_info.height, steps)?;
-    if header.mmr {
-        return Ok(mmr::count_rows(&mut bitmap, header.bytes, steps));
-    }
-    fresh_contexts(contexts, header.template.context_bits())?;
-    let mut decoder = ArithmeticDecoder::new(header.bytes);
-    let rows = count_coded_rows(
-        header.template,
-        header.tpgdon,
-        &header.adaptive_template_pixels,
-        &mut bitmap,
-        &mut decoder,
-        contexts,
-        steps,
-    );
-    Ok(rows)
 }

@@ -1,7 +1,8 @@
 //! How generic regions are coded (T.88, 6.2.5.3 to 6.2.5.7): their contexts, and the pixels that take no
 //! decision.
 ghost use Rattle.std.specs.Prelude.{◌≡◌, ◌+◌, ◌*◌, ◌^◌, ◌<◌, ◌≤◌, length, pos, negsuc, ◌+ℤ◌, false};
-ghost use Rattle.jbig2_base.specs.Grid.{pixel, bit_number};
+ghost use Rattle.jbig2_base.specs.Grid.{pixel};
+ghost use Rattle.jbig2_base.specs.Bits.{bit_number};
 ghost use Rattle.jbig2_region.specs.inner.RegionStates.{DecodesRegion, IsReady, region_state, source_of};
 ghost use Rattle.jbig2_region.specs.Generic.{context_at, coding_of, masked_coding, white_if_skipped};
 ghost use Rattle.jbig2_region.specs.inner.RegionViews.{skip_of};

@@ -1,7 +1,8 @@
 //! Decodes regions pixel by pixel (T.88, 6.2.5 and 6.3.5): the common part of generic regions and
 //! refinements.
 ghost use Rattle.std.specs.Prelude.{◌≡◌, ℕ, ◌+◌, ◌*◌, ◌^◌, ◌<◌, ◌≤◌, length, IfSome, false, Some, pos, ◌<ℤ◌};
-ghost use Rattle.jbig2_base.specs.Grid.{pixel, bit_number, max_side};
+ghost use Rattle.jbig2_base.specs.Grid.{pixel, max_side};
+ghost use Rattle.jbig2_base.specs.Bits.{bit_number};
 ghost use Rattle.jbig2_region.specs.Steps.{CountsDecided};
 ghost use Rattle.jbig2_region.specs.Raster.{Coding};
 ghost use Rattle.jbig2_region.specs.inner.RegionStates.{DecodesRegion, IsReady, counted_region, region_state, source_of};

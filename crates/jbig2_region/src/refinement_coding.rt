@@ -1,6 +1,7 @@
 //! Decodes refinements, and makes their contexts (T.88, 6.3.5.3 to 6.3.5.6).
 ghost use Rattle.std.specs.Prelude.{◌≡◌, ◌+◌, ◌*◌, ◌^◌, ◌<◌, ◌≤◌, ◌++◌, Bool, List, length, map, pos, ◌+ℤ◌, ◌-ℤ◌, ◌<ℤ◌};
-ghost use Rattle.jbig2_base.specs.Grid.{pixel, bit_number};
+ghost use Rattle.jbig2_base.specs.Grid.{pixel};
+ghost use Rattle.jbig2_base.specs.Bits.{bit_number};
 ghost use Rattle.jbig2_region.specs.Steps.{CountsDecided};
 ghost use Rattle.jbig2_region.specs.Generic.{number_of};
 ghost use Rattle.jbig2_region.specs.Steps.{refinement_loads};

@@ -2,7 +2,8 @@
 use Rattle.std.proofs.Common.{◌≡◌, ℕ, zero, suc, ◌+◌, leb, eqb, Bool, true, false, pos, List, [], ◌∷◌, ◌++◌, length, Result, Ok, Err, refl, sym, ◌∙◌, ap, arith, append_assoc, append-nil}
 use Rattle.std.specs.Prelude.{◌+ℤ◌, if◌then◌else◌}
 use Rattle.jbig2_base.specs.Results.{◌>>=◌}
-use Rattle.jbig2_base.specs.Grid.{Grid, bit_number}
+use Rattle.jbig2_base.specs.Grid.{Grid}
+use Rattle.jbig2_base.specs.Bits.{bit_number}
 use Rattle.jbig2_base.specs.declared.error.DecodeError.{DecodeError}
 use Rattle.jbig2_base.specs.declared.error.DecodeError.TheVariants.{Symbol}
 use Rattle.jbig2_base.specs.declared.error.SymbolError.TheVariants.{UnexpectedOob}

@@ -5,7 +5,8 @@ use Rattle.std.specs.Prelude.{◌≡◌, ℕ, zero, suc, ◌+◌, ◌==◌, nat_
 use Rattle.std.specs.Prelude.{length, Result, Ok}
 use Rattle.std.specs.List.{flat_map}
 use Rattle.jbig2_base.specs.Results.{◌>>=◌}
-use Rattle.jbig2_base.specs.Grid.{Grid, bit_number}
+use Rattle.jbig2_base.specs.Grid.{Grid}
+use Rattle.jbig2_base.specs.Bits.{bit_number}
 use Rattle.jbig2_base.specs.declared.error.DecodeError.{DecodeError}
 use Rattle.jbig2_base.specs.declared.error.DecodeError.TheVariants.{Symbol}
 use Rattle.jbig2_base.specs.declared.error.SymbolError.TheVariants.{UnexpectedOob}

@@ -3,7 +3,7 @@ use Rattle.std.proofs.Common.{◌≡◌, ℕ, suc, ◌+◌, ◌-◌, ◌<◌, �
 use Rattle.std.specs.Prelude.{sum}
 use Rattle.std.proofs.lemmas.Bool.{cases_eq, eq-eqb, ne_eqb}
 use Rattle.std.proofs.lemmas.List.Sums.{sum_by-append}
-use Rattle.jbig2_base.specs.Grid.{bit_number}
+use Rattle.jbig2_base.specs.Bits.{bit_number}
 
 pub sum-pushed : (runs after : List ℕ) (last : ℕ) → after ≡ runs ++ last ∷ [] → sum after ≡ sum runs + last
 sum-pushed runs after last pushed =

@@ -3,7 +3,6 @@ use Rattle.std.proofs.Common.{if◌then◌else◌, ◌≡◌, ℕ, zero, suc, �
 use Rattle.std.specs.Prelude.{◌⊎◌, IfErr}
 use Rattle.std.proofs.lemmas.Bool.{cases_lt, cond-true, cond_both, le-leb, leb-true, lt-ltb, ltb-true}
 use Rattle.jbig2_base.specs.Causes.{HasCauseOrNoMemory}
-use Rattle.jbig2_base.specs.Search.{code_length}
 use Rattle.jbig2_base.specs.declared.error.DecodeError.{DecodeError}
 use Rattle.jbig2_base.specs.declared.error.DecodeError.TheVariants.{OutOfMemory}
 use Rattle.jbig2_base.proofs.CauseSteps.{call-cause-or-memory}
@@ -11,6 +10,7 @@ use Rattle.jbig2_base.proofs.SearchLemmas.{place-found}
 use Rattle.jbig2_region.proofs.ResultCauses.{cause-if}
 use Rattle.jbig2_coder.specs.PrefixCode.{is_crowded, longest, share, weight}
 use Rattle.jbig2_coder.specs.Tables.{line, uniform}
+use Rattle.jbig2_coder.specs.CodeLength.{code_length}
 use Rattle.jbig2_coder.specs.declared.huffman_table.line.TableLine.{TableLine}
 use Rattle.jbig2_symbol.specs.SymbolBitmaps.{id_bits, id_codes}
 use Rattle.jbig2_symbol.specs.Causes.{BreaksIdCodes}

@@ -4,8 +4,8 @@ use Rattle.std.proofs.lemmas.Bool.{and_cases, and_parts, eq-eqb, eqb-true, false
 use Rattle.std.proofs.lemmas.Bool as tests
 use Rattle.std.specs.Prelude.{IfErr}
 use Rattle.jbig2_base.specs.Results.{◌>>=◌, refuse_if}
-use Rattle.jbig2_base.specs.Grid.{Grid, bit_number}
-use Rattle.jbig2_base.specs.Bits.{Place, bits_left}
+use Rattle.jbig2_base.specs.Grid.{Grid}
+use Rattle.jbig2_base.specs.Bits.{Place, bits_left, bit_number}
 use Rattle.jbig2_base.specs.Causes.{After, HasCause, HasCauseOrNoMemory}
 use Rattle.jbig2_base.proofs.CauseSteps.{call-cause, call-cause-or-memory}
 use Rattle.jbig2_base.specs.declared.error.DecodeError.{DecodeError}

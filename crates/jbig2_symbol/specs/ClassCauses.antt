@@ -3,9 +3,9 @@
 -- predicate takes the state of the coding that the definitions reach there.
 use Rattle.std.specs.Prelude.{◌≡◌, ◌≢◌, ◌⊎◌, ◌≤◌, ◌<◌, ℕ, Bool, true, false, zero, suc, ◌+◌, ◌-◌, ◌==◌, List, [], ◌∷◌}
 use Rattle.std.specs.Prelude.{◌++◌, length, sum, Any, Option, Some, None, IfErr, ℤ, pos, negsuc, ◌+ℤ◌}
-use Rattle.jbig2_base.specs.Bits.{Place}
+use Rattle.jbig2_base.specs.Bits.{bit_number, Place}
 use Rattle.jbig2_base.specs.Causes.{After, BreaksSides}
-use Rattle.jbig2_base.specs.Grid.{Grid, bit_number, max_side}
+use Rattle.jbig2_base.specs.Grid.{Grid, max_side}
 use Rattle.jbig2_base.specs.declared.error.DecodeError.{DecodeError}
 use Rattle.jbig2_base.specs.declared.error.DecodeError.TheVariants.{Huffman, Overflow, Symbol}
 use Rattle.jbig2_base.specs.declared.error.HuffmanError.TheVariants.{InvalidCode}

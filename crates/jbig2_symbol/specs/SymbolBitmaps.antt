@@ -7,7 +7,6 @@ use Rattle.jbig2_base.specs.Results.{◌>>=◌, refuse_if}
 use Rattle.jbig2_base.specs.Bits.{Place, byte_boundary, start_of, bit}
 use Rattle.jbig2_base.specs.Fields.{end_of_bytes, bytes_at}
 use Rattle.jbig2_base.specs.Grid.{Grid, blank, grid_of, part_or_overflow, wide_or_overflow, check_sides}
-use Rattle.jbig2_base.specs.Search.{code_length}
 use Rattle.jbig2_base.specs.declared.bitmap.operator.CombinationOperator.TheVariants.{Or}
 use Rattle.jbig2_base.specs.declared.error.DecodeError.{DecodeError}
 use Rattle.jbig2_base.specs.declared.error.DecodeError.TheVariants.{Symbol, Huffman, Overflow}
@@ -15,6 +14,7 @@ use Rattle.jbig2_base.specs.declared.error.SymbolError.TheVariants.{Invalid, Une
 use Rattle.jbig2_base.specs.declared.error.OverflowError.TheVariants.{BitmapDimension}
 use Rattle.jbig2_coder.specs.PrefixCode.{Member, prefix_code, table_of}
 use Rattle.jbig2_coder.specs.Tables.{lines_a, lines_f, lines_h, lines_k, lines_o, uniform}
+use Rattle.jbig2_coder.specs.CodeLength.{code_length}
 use Rattle.jbig2_coder.specs.declared.integer_procedures.IntegerProcedure.TheVariants.{Iaai}
 use Rattle.jbig2_mmr.specs.T6.{mmr_rows}
 use Rattle.jbig2_region.specs.Generic.{coding_of}

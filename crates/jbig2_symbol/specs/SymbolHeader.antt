@@ -2,7 +2,7 @@
 -- numbers of exported and of new symbols. The bytes give the header, and the coded bytes after it.
 use Rattle.std.specs.Prelude.{ℕ, ◌/◌, ◌%◌, ◌==◌, nat_lt, Bool, false, ◌||◌, List, [], Result, Ok, Err, if◌then◌else◌}
 use Rattle.std.specs.Int.{w16, w32}
-use Rattle.jbig2_base.specs.Results.{refuse_if}
+use Rattle.jbig2_base.specs.Results.{◌>>=◌, refuse_if}
 use Rattle.jbig2_base.specs.Fields.{number_at}
 use Rattle.jbig2_base.specs.declared.error.DecodeError.{DecodeError}
 use Rattle.jbig2_base.specs.declared.error.DecodeError.TheVariants.{Huffman, Overflow}

@@ -4,7 +4,8 @@
 use Rattle.std.specs.Prelude.{◌++◌, if◌then◌else◌, List, length, Option, Some, None, Result, Ok, ℕ, zero, suc, ◌+◌, ◌-◌}
 use Rattle.std.specs.Prelude.{◌%◌, ◌==◌, nat_le, nat_lt, not, ◌&&◌, [], ◌∷◌}
 use Rattle.jbig2_base.specs.Results.{◌>>=◌, refuse_if}
-use Rattle.jbig2_base.specs.Grid.{Grid, bit_number}
+use Rattle.jbig2_base.specs.Grid.{Grid}
+use Rattle.jbig2_base.specs.Bits.{bit_number}
 use Rattle.jbig2_base.specs.declared.error.DecodeError.{DecodeError}
 use Rattle.jbig2_base.specs.declared.error.DecodeError.TheVariants.{Huffman, Symbol}
 use Rattle.jbig2_base.specs.declared.error.HuffmanError.TheVariants.{InvalidCode, UnexpectedOob}

@@ -1,9 +1,8 @@
-//! Tests bitmaps, and each public call of readers, fields, codes and operators.
+//! Tests bitmaps, errors, and each public call of readers, fields and operators.
 mod bitmaps;
 mod errors;
 
 use jbig2_base::bitmap::operator::CombinationOperator;
-use jbig2_base::code_length::code_length;
 use jbig2_base::error::{DecodeError, HuffmanError, ParseError};
 use jbig2_base::field::{
     bits_field, byte_field, bytes_field, i8_field, i32_field, u16_field, u32_field,
@@ -47,18 +46,6 @@ fn signed_fields_and_bits_are_read(rt: HostRuntime) {
     let invalid = DecodeError::Huffman(HuffmanError::InvalidCode);
     assert!(rt; bits_field(&mut reader, 3, invalid.duplicate()) == Ok(0b101));
     assert!(rt; bits_field(&mut reader, 6, invalid.duplicate()).err() == Some(invalid));
-}
-
-#[test]
-fn codes_have_the_fewest_bits(rt: HostRuntime) {
-    let lengths = [
-        code_length(0),
-        code_length(1),
-        code_length(4),
-        code_length(5),
-        code_length(1 << 21),
-    ];
-    assert!(rt; lengths == [0, 0, 2, 3, 21]);
 }
 
 #[test]

@@ -7,11 +7,11 @@ use Rattle.jbig2_base.specs.Grid.{Grid, blank, check_sides}
 use Rattle.jbig2_base.specs.declared.error.DecodeError.{DecodeError}
 use Rattle.jbig2_base.specs.declared.error.DecodeError.TheVariants.{Huffman}
 use Rattle.jbig2_base.specs.declared.error.HuffmanError.TheVariants.{InvalidSelection}
-use Rattle.jbig2_base.specs.Search.{code_length}
 use Rattle.jbig2_coder.specs.PrefixCode.{Member, prefix_code}
 use Rattle.jbig2_coder.specs.Tables.{next_custom, standard, lines_a, lines_f, lines_g, lines_h, lines_i, lines_j}
 use Rattle.jbig2_coder.specs.Tables.{lines_k, lines_l, lines_m, lines_n, lines_o}
 use Rattle.jbig2_coder.specs.Coder.{fresh_contexts}
+use Rattle.jbig2_coder.specs.CodeLength.{code_length}
 use Rattle.jbig2_region.specs.RefinementTemplates.{refinement_bits}
 use Rattle.jbig2_region.specs.RegionInfo.{PlacedRegion, at_location}
 use Rattle.jbig2_text.specs.Refining.{Refining}

@@ -1,9 +1,6 @@
 //! Symbols that are refined from others while the instances are read (T.88, 6.4.11).
-ghost use Rattle.std.specs.Prelude.{◌≡◌, ◌+◌, ◌*◌, ◌≤◌, ◌⊎◌, false, IfErr, IfOk};
 ghost use Rattle.jbig2_base.specs.Results.{Returns, Gives};
-ghost use Rattle.jbig2_base.specs.Grid.{blank, blank_or_overflow, max_side};
-ghost use Rattle.jbig2_base.specs.declared.error.DecodeError.TheVariants.{OutOfMemory};
-ghost use Rattle.jbig2_steps.specs.Work.{Paid, PaidBut, paid_words, price_of_bitmap, budget};
+ghost use Rattle.jbig2_steps.specs.Work.{PaidBut};
 ghost use Rattle.jbig2_text.specs.Paying.{number_steps};
 ghost use Rattle.jbig2_text.specs.Text.{refinement_deltas, refined_outline, refined_symbol};
 ghost use Rattle.jbig2_text.specs.inner.TextViews.{list_view};
@@ -11,8 +8,9 @@ ghost use Rattle.jbig2_text.specs.inner.TextViews.{list_view};
 use crate::coordinates;
 use crate::readings::ReadInstances;
 use crate::refining::Refining;
+use crate::symbol_bitmap::new_symbol;
 use crate::symbol_list::SymbolList;
-use jbig2_base::bitmap::{Bitmap, check_sides};
+use jbig2_base::bitmap::Bitmap;
 use jbig2_base::error::{Result, SymbolError};
 use jbig2_region::generic_refinement::ReferenceBitmap;
 use jbig2_steps::Work;
@@ -74,30 +72,6 @@ fn outline_of<A: Allocator>(from: &Bitmap<A>, deltas: &RefinementDeltas) -> Resu
         dx,
         dy,
     })
-}
-
-/// A white bitmap for a symbol. The size is checked first, so that a refused size takes no work. The price is
-/// taken before the words of the bitmap are counted.
-pub fn new_symbol<A: Allocator, L: Ledger>(
-    alloc: A,
-    width: u32,
-    height: u32,
-    work: &mut Work<L>,
-) -> Result<Bitmap<A>>
-    ensures value { Gives (λ b. b) result (blank_or_overflow width height false) }
-    ensures width { IfOk result (λ b. b.width ≡ width) }
-    ensures height { IfOk result (λ b. b.height ≡ height) }
-    ensures columns { IfOk result (λ b. b.width ≤ max_side) }
-    ensures rows { IfOk result (λ b. b.height ≤ max_side) }
-    ensures white { IfOk result (λ b. b ≡ blank b.width b.height false) }
-    ensures paid { Paid work.old work.new }
-    ensures taken { IfOk result (λ b. budget work.new + 32 * price_of_bitmap b.width b.height
-        ≤ budget work.old + paid_words b.width b.height) }
-    ensures untaken { IfErr result (λ e. (e ≡ OutOfMemory) ⊎ (budget work.new ≡ budget work.old)) }
-{
-    check_sides(width, height)?;
-    work.pay_bitmap(width, height)?;
-    Bitmap::new(alloc, width, height, &mut work.steps)
 }
 
 /// Reads a symbol that is refined from that of the id.

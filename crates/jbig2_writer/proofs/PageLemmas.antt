@@ -6,8 +6,7 @@ use Rattle.std.proofs.lemmas.Bool.Decides.{nat_tests}
 use Rattle.jbig2_base.specs.Results.{◌>>=◌}
 use Rattle.jbig2_base.specs.declared.error.DecodeError.{DecodeError}
 use Rattle.jbig2_base.specs.Bits.{nonzero}
-use Rattle.jbig2_base.specs.Grid.{Grid, max_side, pixel_at}
-use Rattle.jbig2_base.specs.Table.{IsTable}
+use Rattle.jbig2_base.specs.Grid.{Grid, IsTable, max_side, pixel_at}
 use Rattle.jbig2_coder.specs.Encoder.{encoded_bytes}
 use Rattle.jbig2_region.specs.Generic.{generic_coding}
 use Rattle.jbig2_region.specs.Templates.{nominal_adaptive_pixels, takes_extended, adaptive_pixel_count}

@@ -2,13 +2,13 @@
 use Rattle.std.proofs.Common.{◌≡◌, ℕ, ◌+◌, ◌*◌, false, List, [], ◌∷◌, ◌++◌, length, refl, sym, ◌∙◌, ap, arith, append_assoc}
 use Rattle.std.specs.List.{flat_map}
 use Rattle.std.specs.Int.{w32, to_be_bytes}
-use Rattle.jbig2_base.specs.Grid.{bit_number}
 use Rattle.jbig2_inverses.specs.FileWriter.{file_header_bytes}
 use Rattle.jbig2_inverses.specs.GenericSegmentWriter.{adaptive_bytes, generic_bytes, info_bytes, template_number}
 use Rattle.jbig2_page_inverse.specs.PageFile.{file_header}
 use Rattle.jbig2_writer.specs.declared.settings.WriteSettings.{WriteSettings}
 use Rattle.jbig2_writer.specs.Written.{adaptive_of, is_mmr, template_of, typical_of}
 use Rattle.jbig2_writer.specs.inner.Segments.{page_information, region_data, segment_of}
+use Rattle.jbig2_base.specs.Bits.{bit_number}
 
 -- three parts that are added one after another
 three : (old a b c ra rb rc : List ℕ) → ra ≡ old ++ a → rb ≡ ra ++ b → rc ≡ rb ++ c → rc ≡ old ++ (a ++ (b ++ c))

@@ -3,8 +3,8 @@ use Rattle.std.proofs.Common.{◌≡◌, ℕ, zero, suc, ◌+◌, ◌-◌, ◌*�
 use Rattle.std.proofs.Common.{◌++◌}
 use Rattle.std.proofs.Math.Nat.{pow-suc}
 use Rattle.std.proofs.lemmas.Int.{ints}
-use Rattle.jbig2_base.specs.Bits.{bit}
-use Rattle.jbig2_base.specs.Grid.{Grid, bit_number, pixel, pixel_at}
+use Rattle.jbig2_base.specs.Bits.{bit, bit_number}
+use Rattle.jbig2_base.specs.Grid.{Grid, pixel, pixel_at}
 use Rattle.jbig2_base.proofs.BitLemmas.{bit-shr, bit_number-bit}
 use Rattle.jbig2_region.specs.Generic.{context_at}
 use Rattle.jbig2_region.specs.inner.Neighbours.{side_by_side}

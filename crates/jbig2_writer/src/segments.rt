@@ -1,13 +1,13 @@
 //! The segments of a page, and the header of a file, as bytes (T.88, 7.2, 7.4.6, 7.4.8 and D.4).
 ghost use Rattle.std.specs.Prelude.{◌≡◌, ◌+◌, ◌*◌, ◌^◌, ◌<◌, ◌++◌, false, length, OnOk};
 ghost use Rattle.std.specs.List.{flat_map};
-ghost use Rattle.jbig2_base.specs.Grid.{bit_number};
 ghost use Rattle.jbig2_inverses.specs.FileWriter.{file_header_bytes};
 ghost use Rattle.jbig2_inverses.specs.GenericSegmentWriter.{adaptive_bytes, template_number};
 ghost use Rattle.jbig2_page_inverse.specs.PageFile.{file_header};
 ghost use Rattle.jbig2_region.specs.Templates.{nominal_adaptive_pixels};
 ghost use Rattle.jbig2_writer.specs.Written.{adaptive_of, is_mmr, template_of, typical_of};
 ghost use Rattle.jbig2_writer.specs.inner.Segments.{page_information, region_data, segment_of};
+ghost use Rattle.jbig2_base.specs.Bits.{bit_number};
 
 use crate::settings::{RegionCoding, WriteSettings};
 use jbig2_region::template::Template;

@@ -6,7 +6,7 @@ use Rattle.jbig2_base.specs.declared.bitmap.rows.blocks.Block.{Block}
 use Rattle.jbig2_base.specs.declared.bitmap.rows.blocks.Line.{Line}
 use Rattle.jbig2_base.specs.declared.bitmap.rows.blocks.Shape.{Shape}
 use Rattle.jbig2_base.specs.Counts.{Counts, words_across, loads_across, words_written}
-use Rattle.jbig2_base.specs.Blocks.{CombinesBlock, LiesOn, with_run}
+use Rattle.jbig2_base.specs.inner.Blocks.{CombinesBlock, LiesOn, with_run}
 use Rattle.jbig2_base.specs.Grid.{Grid, pixel_at}
 use Rattle.jbig2_base.specs.inner.Shapes.{HasShape, grid_in}
 

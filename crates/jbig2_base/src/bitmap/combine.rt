@@ -1,11 +1,11 @@
 //! Combines one bitmap with another, word by word (T.88, 7.4.1.5).
 ghost use Rattle.std.specs.Prelude.{◌≡◌, ℕ, true, ◌+◌, ◌-◌, ◌*◌, ◌/◌, ◌^◌, ◌<◌, ◌≤◌, min, pos, ◌-ℤ◌};
-ghost use Rattle.jbig2_base.specs.Blocks.{CombinesBlock, LiesOn, with_block};
+ghost use Rattle.jbig2_base.specs.inner.Blocks.{CombinesBlock, LiesOn, with_block};
 ghost use Rattle.jbig2_base.specs.inner.Combines.{HasEnds, block_of};
 ghost use Rattle.jbig2_base.specs.Combination.{combined_grid, combined_pixel};
 ghost use Rattle.jbig2_base.specs.Counts.{overlap, most_words, source_combined, WritesWithin};
-ghost use Rattle.jbig2_base.specs.Table.{IsTable};
 ghost use Rattle.jbig2_base.specs.Bits.{bit};
+ghost use Rattle.jbig2_base.specs.Grid.{IsTable};
 
 use crate::bitmap::Bitmap;
 use crate::bitmap::operator::CombinationOperator;

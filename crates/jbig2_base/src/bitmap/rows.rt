@@ -4,10 +4,9 @@ ghost use Rattle.std.specs.Prelude.{◌≡◌, ℕ, ◌+◌, ◌-◌, ◌*◌, �
 ghost use Rattle.jbig2_base.specs.Results.{Gives};
 ghost use Rattle.jbig2_base.specs.Counts.{words_cleared, words_copied};
 ghost use Rattle.jbig2_base.specs.Counts.{words_of};
-ghost use Rattle.jbig2_base.specs.Grid.{blank, pixel_at, bit_number};
-ghost use Rattle.jbig2_base.specs.Blocks.{LiesOn, CombinesBlock};
-ghost use Rattle.jbig2_base.specs.Table.{IsTable};
-ghost use Rattle.jbig2_base.specs.Bits.{bit};
+ghost use Rattle.jbig2_base.specs.Grid.{blank, IsTable, pixel_at};
+ghost use Rattle.jbig2_base.specs.inner.Blocks.{LiesOn, CombinesBlock};
+ghost use Rattle.jbig2_base.specs.Bits.{bit, bit_number};
 ghost use Rattle.jbig2_base.specs.Writes.{with_pixel, with_pixels};
 
 pub mod blocks;

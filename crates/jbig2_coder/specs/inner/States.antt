@@ -1,9 +1,9 @@
 -- How a context is kept: as one number, its state.
 use Rattle.std.specs.Prelude.{◌≡◌, ℕ, ◌+◌, ◌*◌, ◌/◌, ◌%◌, ◌<◌, ◌≤◌, ◌==◌}
-use Rattle.jbig2_base.specs.Grid.{bit_number}
 use Rattle.jbig2_coder.specs.Coder.{Context, likely_next, unlikely_next}
 use Rattle.jbig2_coder.specs.QeTable.{qe_row}
 use Rattle.jbig2_coder.specs.declared.arithmetic_decoder.qe_table.State.{State}
+use Rattle.jbig2_base.specs.Bits.{bit_number}
 
 -- twice the row, plus 1 if 1 is the likely symbol
 abbrev pub state_of : Context → ℕ

@@ -1,6 +1,7 @@
 -- The values of a gray-scale image after one more plane (our own rule).
 use Rattle.std.specs.Prelude.{◌≡◌, ℕ, ◌+◌, ◌*◌, ◌/◌, ◌%◌, ◌<◌, ◌==◌, Bool, List, slice_index_or}
-use Rattle.jbig2_base.specs.Grid.{Grid, bit_number, pixel_at, differ}
+use Rattle.jbig2_base.specs.Grid.{Grid, pixel_at, differ}
+use Rattle.jbig2_base.specs.Bits.{bit_number}
 
 -- The highest plane comes first, so each plane moves a value's bits up by one. The new lowest bit is the plane's pixel,
 -- inverted if the bit above it is set.

@@ -1,6 +1,6 @@
 -- The code's header of a pattern dictionary, as the definition's header.
 use Rattle.jbig2_halftone.specs.PatternHeader.{PatternHeader}
-use Rattle.jbig2_halftone.specs.declared.pattern.PatternDictionaryHeader.{PatternDictionaryHeader}
+use Rattle.jbig2_halftone.specs.declared.pattern.header.PatternDictionaryHeader.{PatternDictionaryHeader}
 
 abbrev pub header_view : PatternDictionaryHeader → PatternHeader
 header_view h = record {

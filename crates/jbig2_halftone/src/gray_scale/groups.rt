@@ -1,8 +1,7 @@
 //! The next values of eight pixels in lanes, and of one pixel. Each call counts its steps.
 ghost use Rattle.std.specs.Prelude.{◌≡◌, ℕ, ◌+◌, ◌-◌, ◌^◌, ◌<◌, length, slice_index};
 ghost use Rattle.std.specs.List.{All};
-ghost use Rattle.jbig2_base.specs.Grid.{bit_number};
-ghost use Rattle.jbig2_base.specs.Bits.{bit};
+ghost use Rattle.jbig2_base.specs.Bits.{bit, bit_number};
 ghost use Rattle.jbig2_halftone.specs.inner.NextValues.{next_value};
 
 use jbig2_steps::Steps;

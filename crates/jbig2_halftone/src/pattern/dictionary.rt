@@ -1,8 +1,8 @@
 //! The patterns of a dictionary.
 ghost use Rattle.std.specs.List.{All};
 ghost use Rattle.std.specs.Prelude.{◌≤◌, length};
-ghost use Rattle.jbig2_halftone.specs.PatternHeader.{HasSize};
 ghost use Rattle.jbig2_base.specs.Grid.{max_side};
+ghost use Rattle.jbig2_halftone.specs.Patterns.{HasSize};
 
 use jbig2_base::bitmap::Bitmap;
 use std::alloc::Allocator;

@@ -1,8 +1,7 @@
 -- What the single calls of a T.6 decoder state (our own rule).
 use Rattle.std.specs.Prelude.{◌≡◌, ℕ, zero, suc, ◌+◌, ◌*◌, ◌/◌, ◌%◌, ◌<◌, ◌≤◌, Bool, true, false, List, [], ◌∷◌, ◌++◌}
 use Rattle.std.specs.Prelude.{length, drop, replicate, Option, Some, None, if◌then◌else◌, ◌-◌, ℤ, pos, ◌-ℤ◌, ◌≤ℤ◌}
-use Rattle.jbig2_base.specs.Grid.{Grid, pixel_at, differ}
-use Rattle.jbig2_base.specs.Table.{IsTable}
+use Rattle.jbig2_base.specs.Grid.{Grid, pixel_at, differ, IsTable}
 use Rattle.jbig2_mmr.specs.T6.{begins, ends_block, Head, black_at}
 use Rattle.jbig2_mmr.specs.declared.mmr.codes.Mode.TheVariants.{Horizontal, Pass, Vertical}
 use Rattle.jbig2_mmr.specs.declared.mmr.codes.Mode.{Mode}

@@ -1,8 +1,8 @@
 //! Fills spans of one colour in a row of a bitmap, word by word.
 ghost use Rattle.std.specs.Prelude.{◌≡◌, ℕ, ◌<◌, ◌≤◌};
 ghost use Rattle.jbig2_base.specs.Counts.{KeepsLanes};
-ghost use Rattle.jbig2_base.specs.Table.{IsTable};
 ghost use Rattle.jbig2_base.specs.Bits.{bit};
+ghost use Rattle.jbig2_base.specs.Grid.{IsTable};
 ghost use Rattle.jbig2_mmr.specs.inner.T6Reading.{IsSpan};
 ghost use Rattle.jbig2_mmr.specs.inner.T6Steps.{span_words};
 ghost use Rattle.jbig2_mmr.specs.Steps.{MovesWithin};

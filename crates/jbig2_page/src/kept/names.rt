@@ -4,7 +4,7 @@ ghost use Rattle.std.specs.Prelude.{◌≡◌, Ok};
 ghost use Rattle.jbig2_base.specs.Results.{Gives};
 ghost use Rattle.jbig2_page.specs.Names.{kept_of, kept_under, no_names};
 ghost use Rattle.jbig2_framing.specs.inner.SegmentViews.{segment_view};
-ghost use Rattle.jbig2_page.specs.Prices.{capped, names_count};
+ghost use Rattle.jbig2_page.specs.SegmentPrices.{capped, names_count};
 ghost use Rattle.jbig2_page.specs.Regions.{patterns_for};
 ghost use Rattle.jbig2_page.specs.inner.KeptViews.{found_value, patterns_view, kept_values, kept_symbols_view};
 

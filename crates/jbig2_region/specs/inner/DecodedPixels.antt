@@ -1,7 +1,7 @@
 -- Some decoded pixels of a row, and their decisions (our own rule).
 use Rattle.std.specs.Prelude.{◌≡◌, ◌+◌, ◌*◌, ℕ, Bool, List, Option, Some, None, length, slice_index_or, slice_set}
-use Rattle.jbig2_base.specs.Grid.{bit_number}
 use Rattle.jbig2_base.specs.Counts.{Counts}
+use Rattle.jbig2_base.specs.Bits.{bit_number}
 use Rattle.jbig2_coder.specs.Coder.{Decision, fresh, decision}
 use Rattle.jbig2_region.specs.inner.RowCounts.{decided_pixels}
 use Rattle.jbig2_region.specs.inner.RegionStates.{CountedDecoder, CountedRegion, HasDecoded, RegionState, without_counts}

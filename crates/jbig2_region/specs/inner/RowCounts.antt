@@ -1,12 +1,12 @@
 -- Decisions and run bytes as the decoder counts them, by the pixels of a row and by whole rows (our own rule).
 use Rattle.std.specs.Prelude.{◌≡◌, ℕ, zero, suc, ◌+◌, ◌*◌, Bool, false, if◌then◌else◌, List, length}
-use Rattle.jbig2_base.specs.Grid.{bit_number}
 use Rattle.jbig2_region.specs.Steps.{takes_decision, is_run_byte}
 use Rattle.jbig2_region.specs.Raster.{Coding, Region, after_ltp}
 use Rattle.jbig2_region.specs.inner.RegionStates.{HasDecoded, RegionState}
 use Rattle.jbig2_region.specs.inner.Neighbours.{row_coding}
 use Rattle.jbig2_region.specs.inner.Rows.{after_pixels, after_rows}
 use Rattle.jbig2_region.specs.declared.template.AdaptiveTemplatePixel.{AdaptiveTemplatePixel}
+use Rattle.jbig2_base.specs.Bits.{bit_number}
 
 -- ---- decisions
 module _ (coding : Coding) (w h : ℕ) (bytes : List ℕ) where

@@ -1,9 +1,9 @@
 -- Parts of the definitions that have a name here, because private functions give them.
 use Rattle.std.specs.Prelude.{Err, length, List, None, Ok, Option, option_map, Result, Some, ℕ, ◌*◌, ◌++◌, ◌+◌, ◌-◌, ◌==◌, ◌≡◌}
 use Rattle.jbig2_base.specs.Results.{◌>>=◌}
-use Rattle.jbig2_base.specs.Bits.{byte_boundary, Place}
+use Rattle.jbig2_base.specs.Bits.{bit_number, byte_boundary, Place}
 use Rattle.jbig2_base.specs.Fields.{bytes_at}
-use Rattle.jbig2_base.specs.Grid.{bit_number, Grid, wide_or_overflow}
+use Rattle.jbig2_base.specs.Grid.{Grid, wide_or_overflow}
 use Rattle.jbig2_base.specs.declared.error.OverflowError.TheVariants.{BitmapDimension}
 use Rattle.jbig2_base.specs.declared.error.HuffmanError.TheVariants.{UnexpectedOob}
 use Rattle.jbig2_base.specs.declared.error.DecodeError.TheVariants.{Huffman, Overflow}

@@ -2,7 +2,7 @@
 //! one word of the source.
 ghost use Rattle.std.specs.Prelude.{◌≡◌, ℕ, ◌+◌, ◌-◌, ◌*◌, ◌/◌, ◌%◌, ◌<◌, ◌≤◌, if◌then◌else◌};
 ghost use Rattle.jbig2_base.specs.Combination.{combined_pixel};
-ghost use Rattle.jbig2_base.specs.Blocks.{with_run};
+ghost use Rattle.jbig2_base.specs.inner.Blocks.{with_run};
 ghost use Rattle.jbig2_base.specs.inner.Combines.{IsBlockOnBoth, CombinesBlockOfWords, IsLineOnBoth, CombinesLine};
 ghost use Rattle.jbig2_base.specs.inner.Layouts.{IsLaid};
 ghost use Rattle.jbig2_base.specs.inner.Shapes.{HasShape, grid_in};

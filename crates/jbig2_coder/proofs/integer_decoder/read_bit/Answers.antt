@@ -1,9 +1,9 @@
 use Rattle.std.proofs.Common.{get_or, set, sym, ap, ◌∙◌, arith}
-use Rattle.jbig2_base.specs.Grid.{bit_number}
 use Rattle.jbig2_coder.specs.Coder.{Decision, Coder, decision}
 use Rattle.jbig2_coder.specs.Integers.{prev_of}
 use Rattle.jbig2_coder.specs.inner.IntegerStates.{prev_next}
 use Rattle.jbig2_coder.proofs.Readings.{HasRead-decision, HasRead-read, prev_of-push}
+use Rattle.jbig2_base.specs.Bits.{bit_number}
 use Rattle.jbig2_coder.proofs.integer_decoder.read_bit.Goals as goal
 
 pub returns-clause-bit : goal.returns-clause-bit

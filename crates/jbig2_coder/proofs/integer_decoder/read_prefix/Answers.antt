@@ -1,9 +1,9 @@
 use Rattle.std.proofs.Common.{ℕ, List, sym, ap, subst, ◌∙◌, arith}
-use Rattle.jbig2_base.specs.Grid.{bit_number}
 use Rattle.jbig2_coder.specs.Integers.{next, read, prev_of}
 use Rattle.jbig2_coder.specs.inner.IntegerPrefixes.{Prefix}
 use Rattle.jbig2_coder.specs.inner.IntegerStates.{HasRead}
 use Rattle.jbig2_coder.proofs.Readings.{prefix-goes, prefix-stops, prefix-full, bit-zero, bit-one, HasRead-bytes}
+use Rattle.jbig2_base.specs.Bits.{bit_number}
 use Rattle.jbig2_coder.proofs.integer_decoder.read_prefix.Goals as goal
 
 pub loop-ones-preserved : goal.loop-ones-preserved

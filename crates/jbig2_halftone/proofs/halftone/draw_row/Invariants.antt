@@ -2,10 +2,10 @@ use Rattle.std.proofs.Common.{◌≡◌, ◌+◌, ◌*◌, drop}
 use Rattle.jbig2_base.specs.Counts.{WritesWithin}
 use Rattle.jbig2_halftone.specs.Halftone.{cells_drawn}
 use Rattle.jbig2_halftone.specs.inner.HalftoneHeaderViews.{header_view}
-use Rattle.jbig2_halftone.specs.PatternHeader.{HasSize}
 use Rattle.jbig2_halftone.specs.inner.DictionaryViews.{dictionary_view}
 use Rattle.jbig2_halftone.specs.Steps.{words_of_cells}
 use Rattle.jbig2_halftone.specs.inner.CellPlaces.{x_of, y_of}
+use Rattle.jbig2_halftone.specs.Patterns.{HasSize}
 use Rattle.jbig2_halftone.proofs.halftone.draw_row.Given as goal
 
 abbrev pub invariant-loop-value : goal.invariant-loop-value

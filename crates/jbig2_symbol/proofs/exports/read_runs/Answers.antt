@@ -1,11 +1,11 @@
 use Rattle.std.proofs.Common.{◌≡◌, ◌+◌, ◌-◌, eqb, length, sym, ap, ◌∙◌, inr, arith, rules}
 use Rattle.std.specs.Prelude.{sum}
-use Rattle.jbig2_base.specs.Grid.{bit_number}
 use Rattle.jbig2_symbol.specs.inner.SymbolViews.{input_view}
 use Rattle.jbig2_symbol.proofs.ExportLemmas.{room-left, sum-pushed}
 use Rattle.jbig2_symbol.proofs.JoinedLemmas.{joined-done, joined-fault, joined-none, joined-start, next-empty, next-full, next-joins, not-joined}
 use Rattle.jbig2_symbol.proofs.exports.read_runs.Goals as goal
 use Rattle.jbig2_symbol.proofs.exports.read_runs.Goals.{else-joins+else-run-eq0+in_ok-push, else-joins+then-run-eq0, else-loop-test, then-joins, then-loop-test+then-left-eq0}
+use Rattle.jbig2_base.specs.Bits.{bit_number}
 
 pub returns-then-count-eq0-clause-value : goal.returns-then-count-eq0-clause-value
 returns-then-count-eq0-clause-value g c =

@@ -1,6 +1,6 @@
 use Rattle.std.proofs.Common.{◌≡◌, ℕ, ◌+◌, ◌∙◌, ap, refl, inr, arith}
 use Rattle.jbig2_base.specs.Counts.{rows_combined}
-use Rattle.jbig2_base.specs.Blocks.{with_block}
+use Rattle.jbig2_base.specs.inner.Blocks.{with_block}
 use Rattle.jbig2_base.proofs.BlockLemmas.{block-none, page-more}
 use Rattle.jbig2_base.proofs.CountLemmas.{rows-none, rows-then, wide-counts}
 use Rattle.jbig2_base.proofs.GridLemmas.{table-at}

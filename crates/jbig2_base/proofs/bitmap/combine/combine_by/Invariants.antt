@@ -1,5 +1,5 @@
 use Rattle.std.proofs.Common.{◌≡◌, ◌+◌}
-use Rattle.jbig2_base.specs.Blocks.{with_block}
+use Rattle.jbig2_base.specs.inner.Blocks.{with_block}
 use Rattle.jbig2_base.specs.Counts.{rows_combined}
 use Rattle.jbig2_base.proofs.bitmap.combine.combine_by.Given as goal
 

@@ -1,5 +1,5 @@
 use Rattle.std.proofs.Common.{◌≡◌, ◌+◌, ◌-◌, ◌*◌, ◌/◌, min, max}
-use Rattle.jbig2_base.specs.Blocks.{with_block}
+use Rattle.jbig2_base.specs.inner.Blocks.{with_block}
 use Rattle.jbig2_base.proofs.bitmap.combine.combine_row.Given as goal
 
 abbrev pub invariant-loop-index : goal.invariant-loop-index

@@ -1,10 +1,10 @@
 use Rattle.std.proofs.Common.{sym, ap, ◌∙◌, arith}
-use Rattle.jbig2_base.specs.Grid.{bit_number}
 use Rattle.jbig2_coder.specs.Coder.{Context, Decision}
 use Rattle.jbig2_coder.specs.inner.Ahead.{seen_registers}
 use Rattle.jbig2_coder.specs.inner.States.{context_in_state}
 use Rattle.jbig2_coder.proofs.Decisions.{bool_byte-bit, decision-quiet}
 use Rattle.jbig2_coder.proofs.States.{bit_number-parity}
+use Rattle.jbig2_base.specs.Bits.{bit_number}
 use Rattle.jbig2_coder.proofs.arithmetic_decoder.ArithmeticDecoder.decode.Goals as goal
 
 pub returns-then-rest-self-clause-value : goal.returns-then-rest-self-clause-value

@@ -9,7 +9,7 @@ use Rattle.jbig2_framing.specs.declared.reading.Reading.{Reading}
 use Rattle.jbig2_framing.specs.declared.segment.Segment.{Segment}
 use Rattle.jbig2_page.specs.Names.{Names}
 use Rattle.jbig2_page.specs.Page.{Drawing, ends_page, segment_on, segments_drawn}
-use Rattle.jbig2_page.specs.Prices.{drawn_count}
+use Rattle.jbig2_page.specs.SegmentPrices.{drawn_count}
 use Rattle.jbig2_page.proofs.DrawingSteps.{counts-on}
 use Rattle.jbig2_page.proofs.LeftLemmas.{left-first}
 use Rattle.jbig2_page.proofs.drawing.Drawer.draw_segments.Goals as goal

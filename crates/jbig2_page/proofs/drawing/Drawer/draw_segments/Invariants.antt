@@ -3,7 +3,7 @@ use Rattle.jbig2_framing.specs.inner.SegmentViews.{segment_views}
 use Rattle.jbig2_steps.specs.Work.{budget}
 use Rattle.jbig2_steps.specs.declared.prices.TheConstants as prices
 use Rattle.jbig2_page.specs.Page.{segments_drawn}
-use Rattle.jbig2_page.specs.Prices.{drawn_count}
+use Rattle.jbig2_page.specs.SegmentPrices.{drawn_count}
 use Rattle.jbig2_page.proofs.drawing.Drawer.draw_segments.Given as goal
 
 abbrev pub invariant-loop-segment : goal.invariant-loop-segment

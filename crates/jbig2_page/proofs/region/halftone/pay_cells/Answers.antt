@@ -1,7 +1,7 @@
 use Rattle.std.proofs.Common.{◌≡◌, ℕ, ◌*◌, ◌∙◌, ap, length, arith}
-use Rattle.jbig2_base.specs.Search.{code_length}
 use Rattle.jbig2_steps.specs.Work.{price_of_bitmap, budget}
 use Rattle.jbig2_page.proofs.Paying.{cells-taken}
+use Rattle.jbig2_coder.specs.CodeLength.{code_length}
 use Rattle.jbig2_page.proofs.region.halftone.pay_cells.Goals as goal
 
 pub returns-clause-taken : goal.returns-clause-taken

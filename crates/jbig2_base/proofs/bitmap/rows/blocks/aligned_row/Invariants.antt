@@ -1,6 +1,6 @@
 use Rattle.std.proofs.Common.{◌≡◌, ◌+◌, ◌-◌, ◌*◌}
 use Rattle.jbig2_base.specs.Grid.{pixel_at}
-use Rattle.jbig2_base.specs.Blocks.{with_run}
+use Rattle.jbig2_base.specs.inner.Blocks.{with_run}
 use Rattle.jbig2_base.specs.inner.Shapes.{HasShape, grid_in}
 use Rattle.jbig2_base.proofs.CountLemmas.{after_words}
 use Rattle.jbig2_base.proofs.bitmap.rows.blocks.aligned_row.Given as goal

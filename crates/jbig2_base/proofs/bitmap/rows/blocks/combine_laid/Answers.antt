@@ -1,7 +1,7 @@
 use Rattle.std.proofs.Common.{◌≡◌, ◌+◌, ◌∙◌, sym, ap, refl, ℕ, inr, arith}
 use Rattle.jbig2_base.specs.Grid.{Grid}
 use Rattle.jbig2_base.specs.Counts.{rows_combined}
-use Rattle.jbig2_base.specs.Blocks.{with_block}
+use Rattle.jbig2_base.specs.inner.Blocks.{with_block}
 use Rattle.jbig2_base.specs.inner.Packed.{packed_pixel}
 use Rattle.jbig2_base.specs.inner.Shapes.{grid_in}
 use Rattle.jbig2_base.proofs.BlockLemmas.{block-none}

@@ -1,6 +1,6 @@
 use Rattle.std.proofs.Common.{◌≡◌, ◌+◌}
 use Rattle.jbig2_base.specs.Counts.{rows_combined}
-use Rattle.jbig2_base.specs.Blocks.{with_block}
+use Rattle.jbig2_base.specs.inner.Blocks.{with_block}
 use Rattle.jbig2_base.specs.inner.Shapes.{HasShape, grid_in}
 use Rattle.jbig2_base.proofs.bitmap.rows.blocks.combine_laid.Given as goal
 

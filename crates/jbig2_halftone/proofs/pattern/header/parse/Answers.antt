@@ -2,7 +2,7 @@ use Rattle.std.proofs.Common.{rules, Err}
 use Rattle.std.proofs.lemmas.Result.{err_from_is_err_and}
 use Rattle.jbig2_halftone.specs.PatternHeader.{pattern_header_at}
 use Rattle.jbig2_halftone.proofs.Causes.{pattern_header_cause}
-use Rattle.jbig2_halftone.proofs.pattern.parse.Goals as goal
+use Rattle.jbig2_halftone.proofs.pattern.header.parse.Goals as goal
 
 pub returns-in_err-flags-clause-causes : goal.returns-in_err-flags-clause-causes
 unfolding pattern_header_at

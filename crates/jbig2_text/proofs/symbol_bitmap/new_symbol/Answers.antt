@@ -1,6 +1,6 @@
 use Rattle.std.proofs.Common.{arith}
 use Rattle.jbig2_text.proofs.PayingLemmas.{made-worth, new-taken, twice-paid}
-use Rattle.jbig2_text.proofs.refined.new_symbol.Goals as goal
+use Rattle.jbig2_text.proofs.symbol_bitmap.new_symbol.Goals as goal
 
 pub returns-clause-paid : goal.returns-clause-paid
 returns-clause-paid g c =

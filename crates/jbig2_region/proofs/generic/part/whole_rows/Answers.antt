@@ -5,7 +5,7 @@ use Rattle.jbig2_base.proofs.MadeLemmas.{made-counted, words-same, made-paid}
 use Rattle.jbig2_base.proofs.Prices.{price-same}
 use Rattle.jbig2_mmr.proofs.Prices.{mmr-paid}
 use Rattle.jbig2_region.proofs.GenericPrices.{whole-rows-paid}
-use Rattle.jbig2_region.proofs.generic.whole_rows.Goals as goal
+use Rattle.jbig2_region.proofs.generic.part.whole_rows.Goals as goal
 
 pub returns-clause-paid : goal.returns-clause-paid
 returns-clause-paid g c =

@@ -1,6 +1,6 @@
 //! The fewest bits of a code (T.88, 6.5.8.2.3).
 ghost use Rattle.std.specs.Prelude.{◌≡◌, ◌^◌, ◌≤◌};
-ghost use Rattle.jbig2_base.specs.Search.{code_length};
+ghost use Rattle.jbig2_coder.specs.CodeLength.{code_length};
 
 /// The fewest bits that can number `count` things, at most 2^22 of them (T.88, 6.5.8.2.3).
 pub fn code_length(count: usize) -> u32

@@ -1,5 +1,5 @@
 use Rattle.std.proofs.Common.{ℕ, ◌-◌, ◌<◌, ◌≤◌, ◌^◌}
-use Rattle.jbig2_base.proofs.code_length.code_length.Given as goal
+use Rattle.jbig2_coder.proofs.code_length.code_length.Given as goal
 
 abbrev pub invariant-loop-bits : goal.invariant-loop-bits
 invariant-loop-bits l = record {
