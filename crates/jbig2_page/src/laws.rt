@@ -63,7 +63,8 @@ pub fn end_of_page_ends()
 {}
 
 /// Whatever the bytes are, no definition gives `DecodeError::OutOfMemory`, `HuffmanError::ConflictingCodes`,
-/// `TemplateError::Invalid` or `OverflowError::Index`. So `OutOfMemory` never means that the bytes are faulty.
+/// `TemplateError::Invalid` or `OverflowError::Index`. A call returns `OutOfMemory` only in place of what its definition
+/// gives.
 pub fn errors_are_from_input()
     ensures { ErrorsAreFromInput }
 {}

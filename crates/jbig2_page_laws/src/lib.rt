@@ -12,9 +12,10 @@ pub fn pixels_are_folds()
     ensures { PixelsAreFolds }
 {}
 
-/// Where globals, a page or a file is refused with an error, one of its segments breaks the rule that names the error.
-/// Its bytes do, where segments are read; or else the segment itself does, after those before it were drawn or kept. In
-/// coded data the rule is broken at the state that the definitions reach there.
+/// Where globals, a page or a file is refused with an error, the rule that names the error is broken. The bytes of one
+/// segment break it, where segments are read; or a segment itself does, after those before it were drawn or kept; or a
+/// file's header; or, where a page or a file begins, all segments together. In coded data the rule is broken at the state
+/// that the definitions reach there.
 pub fn errors_have_causes()
     ensures { ErrorsHaveCauses }
 {}
