@@ -1,6 +1,7 @@
--- What the errors of globals, pages and files mean (docs/FORMAT.md). Each is said of one segment: the rule that names
--- the error is broken by its bytes, where they are read, or by the segment itself, where it is drawn or kept. A
--- segment's number is in its header, the first four of its bytes.
+-- What the errors of globals, pages and files mean (docs/FORMAT.md). Most are said of one segment: its bytes break the
+-- rule that names the error, where they are read, or the segment itself does, where it is drawn or kept. A file's header
+-- may break a rule too, and so may all segments together, where a page or a file begins. A segment's number is in its
+-- header, the first four of its bytes.
 use Rattle.std.specs.Prelude.{◌≡◌, ◌⊎◌, ℕ, IsFalse, List, [], ◌∷◌, ◌++◌, All, None, Ok, Err, IfErr}
 use Rattle.std.specs.Prelude.{IfOk}
 use Rattle.jbig2_base.specs.declared.error.DecodeError.{DecodeError}
