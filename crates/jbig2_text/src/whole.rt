@@ -17,7 +17,7 @@ use crate::params::TextParams;
 use crate::readings::ReadInstances;
 use crate::refining::Refining;
 use crate::strips::{begin_strip, move_on, read_strip_delta};
-use crate::{numbers, params_of, refining_of, start_coded, start_prefixed};
+use crate::{coordinates, params_of, refining_of, start_coded, start_prefixed};
 use jbig2_base::bitmap::{Bitmap, check_sides};
 use jbig2_base::error::{DecodeError, Result};
 use jbig2_coder::huffman_table::{HuffmanTable, StandardHuffmanTables};
