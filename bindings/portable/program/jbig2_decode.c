@@ -1,5 +1,5 @@
 /* The program jbig2-decode over the library for C, for machines that the proved program is not made for. Its words, its
- * statuses and what it prints are those of ../crates/jbig2_commands (specs/Words.antt, specs/Printed.antt). */
+ * statuses and what it prints are those of crates/jbig2_program (specs/Words.antt, specs/Printed.antt). */
 #include "hayro_jbig2.h"
 
 #include <signal.h>

@@ -11,7 +11,7 @@ use crate::step_count::StepCount;
 use crate::work_limit::work_within;
 use jbig2_base::error::Result;
 use jbig2_page::drawing::canvas::Canvas;
-use jbig2_page::drawing::passed_over::PassedOver;
+use jbig2_page::passed_over::PassedOver;
 use jbig2_steps::Work;
 use std::alloc::Allocator;
 use std::marker::Model;

@@ -1,7 +1,7 @@
 //! `DrawnPage`: lends a page that was drawn as packed rows.
 ghost use Rattle.std.specs.Prelude.{◌≡◌, ◌+◌, ◌≤◌, [], drop, length, take};
 
-use jbig2_page::drawing::drawn_rows::DrawnRows;
+use jbig2_page::packed::drawn_rows::DrawnRows;
 use jbig2_permit::Permit;
 use jbig2_steps::Steps;
 use std::alloc::Allocator;

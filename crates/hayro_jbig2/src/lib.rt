@@ -31,9 +31,9 @@ pub use jbig2_base::error::{
 pub use jbig2_decoder::jbig2_error::Jbig2Error;
 pub use jbig2_decoder::{Jbig2Decoder, reading};
 pub use jbig2_framing::cut_off::CutOff;
-pub use jbig2_page::drawing::passed_over::{PassedOver, PassedSegment};
 pub use jbig2_page::laws;
 pub use jbig2_page::page::decoder::Decoder;
+pub use jbig2_page::passed_over::{PassedOver, PassedSegment};
 pub use page::Page;
 pub use settings::DecodeSettings;
 pub use work_limit::WorkLimit;

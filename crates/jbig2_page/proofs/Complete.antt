@@ -13,7 +13,7 @@ use Rattle.jbig2_page.specs.Lenient.{CompletePagesAreStrict}
 use Rattle.jbig2_page.specs.Names.{Names}
 use Rattle.jbig2_page.specs.Page.{Drawing, blank_page, ends_page, or_left_out, or_told, segment_by, segment_on, segments_drawn}
 use Rattle.jbig2_framing.specs.Segment.{is_partial}
-use Rattle.jbig2_page.specs.declared.drawing.passed_over.PassedOver.{PassedOver}
+use Rattle.jbig2_page.specs.declared.passed_over.PassedOver.{PassedOver}
 use Rattle.jbig2_page.proofs.AgreeingPages.{segment-any}
 use Rattle.jbig2_page.proofs.DrawingSteps.{segment-step}
 use Rattle.jbig2_page.specs.PassedOver.{fault_of, with_passed}

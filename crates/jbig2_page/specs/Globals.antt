@@ -8,7 +8,7 @@ use Rattle.jbig2_framing.specs.Segment.{SegmentView}
 use Rattle.jbig2_framing.specs.Sequential.{sorted_segments}
 use Rattle.jbig2_framing.specs.declared.cut_off.CutOff.{CutOff}
 use Rattle.jbig2_framing.specs.declared.reading.Reading.{Reading}
-use Rattle.jbig2_page.specs.declared.drawing.passed_over.PassedOver.{PassedOver}
+use Rattle.jbig2_page.specs.declared.passed_over.PassedOver.{PassedOver}
 use Rattle.jbig2_page.specs.PassedOver.{fault_of, nothing_passed, with_fault, with_passed}
 use Rattle.jbig2_page.specs.Names.{kept_by, Names, no_names}
 

@@ -28,7 +28,7 @@ use Rattle.jbig2_page.specs.Regions.{generic_at, halftone_at, refinement_at, tex
 use Rattle.jbig2_page.specs.PassedOver.{fault_of, nothing_passed, with_passed}
 use Rattle.jbig2_framing.specs.Segment.{is_partial}
 use Rattle.jbig2_page.specs.declared.kept.Kept.{Kept}
-use Rattle.jbig2_page.specs.declared.drawing.passed_over.PassedOver.{PassedOver}
+use Rattle.jbig2_page.specs.declared.passed_over.PassedOver.{PassedOver}
 use Rattle.jbig2_page.specs.declared.region.RegionKind.{RegionKind}
 use Rattle.jbig2_framing.specs.declared.segment.SegmentType.TheVariants as types
 use Rattle.jbig2_page.specs.declared.region.RegionKind.TheVariants as kinds

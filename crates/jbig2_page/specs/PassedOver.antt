@@ -3,7 +3,7 @@
 use Rattle.std.specs.Prelude.{Err, None, Ok, Option, Result, Some, ℕ, ◌+◌}
 use Rattle.std.specs.Option.{option_or}
 use Rattle.jbig2_base.specs.declared.error.DecodeError.{DecodeError}
-use Rattle.jbig2_page.specs.declared.drawing.passed_over.PassedOver.{PassedOver}
+use Rattle.jbig2_page.specs.declared.passed_over.PassedOver.{PassedOver}
 
 abbrev pub nothing_passed : PassedOver
 nothing_passed = record { count = 0; first = None }

@@ -15,9 +15,6 @@ ghost use Rattle.jbig2_steps.specs.Work.{Paid, budget};
 ghost use Rattle.jbig2_steps.specs.declared.prices.TheConstants as prices;
 
 pub mod canvas;
-pub mod drawn_rows;
-pub(crate) mod packed;
-pub mod passed_over;
 
 use crate::drawing::canvas::Canvas;
 use crate::kept::Kept;

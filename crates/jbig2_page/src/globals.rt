@@ -13,10 +13,10 @@ ghost use Rattle.jbig2_page.specs.Globals.{globals_at, nothing_shared, or_shared
 ghost use Rattle.jbig2_steps.specs.Work.{IsWithinLimit, Paid, budget};
 ghost use Rattle.jbig2_steps.specs.declared.prices.TheConstants as prices;
 
-use crate::drawing::passed_over::PassedOver;
 use crate::kept::names::KeptNames;
 use crate::kept::segments::{keep_patterns, keep_symbols, keep_table};
 use crate::other_segments::{extension, unlisted};
+use crate::passed_over::PassedOver;
 use crate::segment_price::pay_segment;
 use crate::workspace::Workspace;
 use jbig2_base::error::{DecodeError, Result};

@@ -10,10 +10,10 @@ ghost use Rattle.jbig2_page.specs.inner.WholePages.{IsBlankPage};
 ghost use Rattle.jbig2_page.specs.PassedOver.{with_passed};
 ghost use Rattle.jbig2_steps.specs.Work.{PaidBut, paid_words, price_of_bitmap};
 
-use crate::drawing::drawn_rows::DrawnRows;
-use crate::drawing::passed_over::PassedOver;
 use crate::kept::Kept;
 use crate::kept::names::KeptNames;
+use crate::packed::drawn_rows::DrawnRows;
+use crate::passed_over::PassedOver;
 use crate::workspace::Workspace;
 use jbig2_base::bitmap::Bitmap;
 use jbig2_base::error::{DecodeError, Result};

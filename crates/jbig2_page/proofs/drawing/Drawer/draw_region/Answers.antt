@@ -3,7 +3,7 @@ use Rattle.jbig2_framing.specs.Reading.{is_strict}
 use Rattle.jbig2_framing.specs.inner.SegmentViews.{segment_view}
 use Rattle.jbig2_base.specs.declared.error.DecodeError.{DecodeError}
 use Rattle.jbig2_page.specs.Page.{Drawing, immediate, region_at, with_drawn_region}
-use Rattle.jbig2_page.specs.declared.drawing.passed_over.PassedOver.{PassedOver}
+use Rattle.jbig2_page.specs.declared.passed_over.PassedOver.{PassedOver}
 use Rattle.jbig2_page.proofs.Direct.{drawn-either, passed}
 use Rattle.jbig2_page.proofs.drawing.Drawer.draw_region.Goals as goal
 

@@ -10,7 +10,7 @@ use Rattle.jbig2_framing.proofs.RandomAccess.{left-out}
 use Rattle.jbig2_framing.specs.Segment.{SegmentView}
 use Rattle.jbig2_page.proofs.AgreeingPages.{kept-any}
 use Rattle.jbig2_page.specs.Names.{Names, kept_by, no_names}
-use Rattle.jbig2_page.specs.declared.drawing.passed_over.PassedOver.{PassedOver}
+use Rattle.jbig2_page.specs.declared.passed_over.PassedOver.{PassedOver}
 use Rattle.jbig2_page.proofs.globals.GlobalsContent.add.Goals as goal
 use Rattle.jbig2_page.proofs.globals.GlobalsContent.add.Goals.{then-is_strict-via-then-is_strict, then-is_strict-via-else-is_strict+then-matches, in-OutOfMemory, in_default}
 use Rattle.jbig2_page.specs.PassedOver.{fault_of, with_passed}

@@ -1,6 +1,6 @@
 use Rattle.std.proofs.Common.{◌∙◌, arith}
 use Rattle.jbig2_page.proofs.PackedRows.{byte-pixels}
-use Rattle.jbig2_page.proofs.drawing.packed.put_rest.Goals as goal
+use Rattle.jbig2_page.proofs.packed.put_rest.Goals as goal
 
 pub returns-clause-bytes : goal.returns-clause-bytes
 returns-clause-bytes g c = record {

@@ -6,6 +6,8 @@ ghost use Rattle.jbig2_page.specs.Image.{packed_byte, packed_part, row_bytes};
 ghost use Rattle.jbig2_page.specs.inner.BufferBytes.{top_byte, word_byte, Fills};
 ghost use Rattle.jbig2_steps.specs.Work.{sum_of_counts};
 
+pub mod drawn_rows;
+
 use jbig2_base::bitmap::Bitmap;
 use jbig2_steps::Steps;
 use std::alloc::Allocator;

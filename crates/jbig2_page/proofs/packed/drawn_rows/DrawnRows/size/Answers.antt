@@ -1,7 +1,7 @@
 use Rattle.std.proofs.Common.{◌≡◌, ◌*◌, ◌∙◌, ℕ, List, ap, sym, length, arith}
 use Rattle.jbig2_page.specs.Image.{packed_size}
 use Rattle.jbig2_page.proofs.PackedRows.{packed-length}
-use Rattle.jbig2_page.proofs.drawing.drawn_rows.DrawnRows.size.Goals as goal
+use Rattle.jbig2_page.proofs.packed.drawn_rows.DrawnRows.size.Goals as goal
 
 pub returns : goal.returns
 returns g c =

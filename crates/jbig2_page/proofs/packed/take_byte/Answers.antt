@@ -1,7 +1,7 @@
 use Rattle.std.proofs.Common.{arith}
 use Rattle.jbig2_base.proofs.BitLemmas.{bit-shl_high}
 use Rattle.jbig2_page.proofs.PackedRows.{byte-bits}
-use Rattle.jbig2_page.proofs.drawing.packed.take_byte.Goals as goal
+use Rattle.jbig2_page.proofs.packed.take_byte.Goals as goal
 
 pub returns-clause-value : goal.returns-clause-value
 returns-clause-value c = byte-bits c.args.word.now (omega arith)

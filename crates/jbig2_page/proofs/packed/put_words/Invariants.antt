@@ -2,7 +2,7 @@ use Rattle.std.proofs.Common.{◌≡◌, ◌+◌, ◌*◌}
 use Rattle.jbig2_base.specs.Counts.{words_loaded}
 use Rattle.jbig2_page.specs.Image.{packed_byte}
 use Rattle.jbig2_page.specs.inner.BufferBytes.{Fills}
-use Rattle.jbig2_page.proofs.drawing.packed.put_words.Given as goal
+use Rattle.jbig2_page.proofs.packed.put_words.Given as goal
 
 abbrev pub invariant-loop-index : goal.invariant-loop-index
 invariant-loop-index g l = record {

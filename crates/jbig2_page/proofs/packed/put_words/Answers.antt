@@ -3,7 +3,7 @@ use Rattle.jbig2_base.proofs.CountLemmas.{loaded-as, loaded-more, loaded-none}
 use Rattle.jbig2_page.specs.Image.{packed_byte}
 use Rattle.jbig2_page.proofs.PackedRows.{words-part}
 use Rattle.jbig2_page.proofs.PutLemmas.{puts-none, puts-all}
-use Rattle.jbig2_page.proofs.drawing.packed.put_words.Goals as goal
+use Rattle.jbig2_page.proofs.packed.put_words.Goals as goal
 
 pub loop-index-init : goal.loop-index-init
 loop-index-init g c = record {

@@ -1,7 +1,7 @@
 use Rattle.std.proofs.Common.{◌≡◌, ◌+◌, ◌-◌, ◌*◌, ◌/◌, ◌%◌, ◌<◌, ◌≤◌, ℕ, get_or, length}
 use Rattle.jbig2_page.specs.Image.{packed_byte, row_bytes}
 use Rattle.jbig2_steps.specs.Work.{sum_of_counts}
-use Rattle.jbig2_page.proofs.drawing.packed.write_packed.Given as goal
+use Rattle.jbig2_page.proofs.packed.write_packed.Given as goal
 
 abbrev pub invariant-loop-place : goal.invariant-loop-place
 invariant-loop-place g l = record {

@@ -6,8 +6,8 @@ use Rattle.jbig2_steps.specs.Work.{sum_of_counts}
 use Rattle.jbig2_page.specs.Image.{packed_byte, packed_part, row_bytes}
 use Rattle.jbig2_page.proofs.PackedRows.{values-from}
 use Rattle.jbig2_page.proofs.RowValues.{value-at, values-more}
-use Rattle.jbig2_page.proofs.drawing.packed.write_packed.Goals as goal
-use Rattle.jbig2_page.proofs.drawing.packed.write_packed.Goals.{then-count-eq0, else-count-eq0}
+use Rattle.jbig2_page.proofs.packed.write_packed.Goals as goal
+use Rattle.jbig2_page.proofs.packed.write_packed.Goals.{then-count-eq0, else-count-eq0}
 
 -- whole words take a load for each eight bytes, and the rest of a word one for a byte at least
 put-whole : (first old new : Counts) (place count : ℕ) → sum_of_counts old ≤ sum_of_counts first + place → new ≡ words_loaded ((count + 7) / 8) old → sum_of_counts new ≤ sum_of_counts first + (place + count)

@@ -3,7 +3,7 @@ use Rattle.jbig2_base.specs.Bits.{bit}
 use Rattle.jbig2_page.specs.inner.BufferBytes.{word_byte}
 use Rattle.jbig2_page.proofs.PackedRows.{byte-of-rest}
 use Rattle.jbig2_page.proofs.PutLemmas.{puts-none, puts-next, puts-all}
-use Rattle.jbig2_page.proofs.drawing.packed.put_bytes.Goals as goal
+use Rattle.jbig2_page.proofs.packed.put_bytes.Goals as goal
 
 pub loop-i-init : goal.loop-i-init
 loop-i-init c = record {

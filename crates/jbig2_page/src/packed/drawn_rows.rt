@@ -4,7 +4,7 @@ ghost use Rattle.jbig2_page.specs.Image.{packed_of};
 ghost use Rattle.jbig2_page.specs.inner.WholePages.{IsBlankPage};
 ghost use Rattle.jbig2_steps.specs.Work.{sum_of_counts};
 
-use crate::drawing::packed::write_packed;
+use crate::packed::write_packed;
 use jbig2_base::bitmap::Bitmap;
 use jbig2_steps::Steps;
 use std::alloc::Allocator;

@@ -1,7 +1,7 @@
 use Rattle.std.proofs.Common.{◌≡◌, ◌-◌, ◌*◌, ◌<◌, ◌≤◌, ℕ}
 use Rattle.jbig2_base.specs.Bits.{bit}
 use Rattle.jbig2_page.specs.inner.BufferBytes.{word_byte, Fills}
-use Rattle.jbig2_page.proofs.drawing.packed.put_bytes.Given as goal
+use Rattle.jbig2_page.proofs.packed.put_bytes.Given as goal
 
 abbrev pub invariant-loop-i : goal.invariant-loop-i
 invariant-loop-i l = record {

@@ -2,7 +2,7 @@ use Rattle.std.proofs.Common.{◌≡◌, ◌+◌, ◌∙◌, ℕ, List, ap, sym,
 use Rattle.jbig2_base.specs.Grid.{Grid}
 use Rattle.jbig2_page.specs.Image.{packed_part, packed_size}
 use Rattle.jbig2_page.proofs.PackedRows.{packed-length, part-of-whole, rows-bounded, white-part}
-use Rattle.jbig2_page.proofs.drawing.drawn_rows.DrawnRows.read_at.Goals as goal
+use Rattle.jbig2_page.proofs.packed.drawn_rows.DrawnRows.read_at.Goals as goal
 
 pub write_packed-requires : goal.write_packed-requires
 write_packed-requires g c =
