@@ -3494,7 +3494,7 @@
 	movq	%rdx, 8(%rsp)
 	movq	$0, 16(%rsp)
 	movq	$15, 24(%rsp)
-	leaq	".Lswitch.table.jbig2_coder::huffman_table::standard::StandardHuffmanTables::new::<#98122509696db2bb>.860.rel"(%rip), %rbx
+	leaq	".Lswitch.table.jbig2_coder::huffman_table::standard::StandardHuffmanTables::new::<#98122509696db2bb>.859.rel"(%rip), %rbx
 	leaq	".Lswitch.table.jbig2_coder::huffman_table::standard::StandardHuffmanTables::new::<#98122509696db2bb>"(%rip), %r15
 	xorl	%ebp, %ebp
 	xorl	%r12d, %r12d
@@ -3504,7 +3504,7 @@
 	ja	.LBB12_3
 	movq	(%r15), %rdx
 	movslq	(%rbx), %rax
-	leaq	".Lswitch.table.jbig2_coder::huffman_table::standard::StandardHuffmanTables::new::<#98122509696db2bb>.860.rel"(%rip), %rsi
+	leaq	".Lswitch.table.jbig2_coder::huffman_table::standard::StandardHuffmanTables::new::<#98122509696db2bb>.859.rel"(%rip), %rsi
 	addq	%rax, %rsi
 	jmp	.LBB12_5
 	.p2align	4
@@ -18741,7 +18741,7 @@
 	leaq	20(%rsp), %rdi
 	movq	%r10, %rsi
 	movq	%r11, %rdx
-	callq	"jbig2_page::drawing::dictionaries::keep_table::<#98122509696db2bb>"
+	callq	"jbig2_page::kept::segments::keep_table::<#98122509696db2bb>"
 	jmp	.LBB49_19
 .LBB49_14:
 	cmpb	$0, (%rsi)
@@ -18770,7 +18770,7 @@
 	movq	%r10, %rsi
 	movq	%r11, %rcx
 	movq	%rax, %r9
-	callq	"jbig2_page::drawing::dictionaries::keep_patterns::<#f6a64cf450531408>"
+	callq	"jbig2_page::kept::segments::keep_patterns::<#f6a64cf450531408>"
 	movzbl	28(%rsp), %eax
 	movb	%al, 20(%rsp)
 	movzwl	29(%rsp), %eax
@@ -18810,7 +18810,7 @@
 	leaq	24(%rsp), %rdi
 	movq	%r10, %rsi
 	movq	%r11, %r8
-	callq	"jbig2_page::drawing::dictionaries::keep_symbols::<#f6a64cf450531408>"
+	callq	"jbig2_page::kept::segments::keep_symbols::<#f6a64cf450531408>"
 	movzbl	24(%rsp), %eax
 	movb	%al, 20(%rsp)
 	movzwl	25(%rsp), %eax
@@ -18877,10 +18877,10 @@
 .LCPI50_1:
 	.quad	10800
 	.quad	15120
-	.section	".text.jbig2_page::drawing::dictionaries::keep_symbols::<#f6a64cf450531408>","ax",@progbits
+	.section	".text.jbig2_page::kept::segments::keep_symbols::<#f6a64cf450531408>","ax",@progbits
 	.p2align	4
-	.type	"jbig2_page::drawing::dictionaries::keep_symbols::<#f6a64cf450531408>",@function
-"jbig2_page::drawing::dictionaries::keep_symbols::<#f6a64cf450531408>":
+	.type	"jbig2_page::kept::segments::keep_symbols::<#f6a64cf450531408>",@function
+"jbig2_page::kept::segments::keep_symbols::<#f6a64cf450531408>":
 	pushq	%rbp
 	pushq	%r15
 	pushq	%r14
@@ -20566,7 +20566,7 @@
 	leaq	752(%rsp), %r9
 	movl	%r13d, %ecx
 	movq	112(%rsp), %r8
-	callq	"jbig2_symbol::bitmaps::read_mmr_rows::<#34eeb9d33d43f665>"
+	callq	"jbig2_symbol::collective::read_mmr_rows::<#34eeb9d33d43f665>"
 	movzbl	288(%rsp), %eax
 	movzbl	289(%rsp), %ecx
 	movq	%rcx, 24(%rsp)
@@ -22915,7 +22915,7 @@
 	movl	$1, %esi
 	movl	%r13d, %ecx
 	movq	112(%rsp), %r8
-	callq	"jbig2_symbol::bitmaps::read_mmr_rows::<#34eeb9d33d43f665>"
+	callq	"jbig2_symbol::collective::read_mmr_rows::<#34eeb9d33d43f665>"
 	cmpb	$0, 288(%rsp)
 	jne	.LBB50_555
 	cmpq	$0, 328(%rsp)
@@ -22924,8 +22924,8 @@
 	callq	rattle_dealloc@PLT
 	jmp	.LBB50_574
 .Lfunc_end50:
-	.size	"jbig2_page::drawing::dictionaries::keep_symbols::<#f6a64cf450531408>", .Lfunc_end50-"jbig2_page::drawing::dictionaries::keep_symbols::<#f6a64cf450531408>"
-	.section	".rodata.jbig2_page::drawing::dictionaries::keep_symbols::<#f6a64cf450531408>","a",@progbits
+	.size	"jbig2_page::kept::segments::keep_symbols::<#f6a64cf450531408>", .Lfunc_end50-"jbig2_page::kept::segments::keep_symbols::<#f6a64cf450531408>"
+	.section	".rodata.jbig2_page::kept::segments::keep_symbols::<#f6a64cf450531408>","a",@progbits
 	.p2align	2, 0x0
 .LJTI50_0:
 	.long	.LBB50_11-.LJTI50_0
@@ -29187,10 +29187,10 @@
 .Lfunc_end69:
 	.size	"std_alloc::vec::Vec::grow_amortized::<#1ac8f5d9e10e9cc3>", .Lfunc_end69-"std_alloc::vec::Vec::grow_amortized::<#1ac8f5d9e10e9cc3>"
 
-	.section	".text.jbig2_symbol::bitmaps::read_mmr_rows::<#34eeb9d33d43f665>","ax",@progbits
+	.section	".text.jbig2_symbol::collective::read_mmr_rows::<#34eeb9d33d43f665>","ax",@progbits
 	.p2align	4
-	.type	"jbig2_symbol::bitmaps::read_mmr_rows::<#34eeb9d33d43f665>",@function
-"jbig2_symbol::bitmaps::read_mmr_rows::<#34eeb9d33d43f665>":
+	.type	"jbig2_symbol::collective::read_mmr_rows::<#34eeb9d33d43f665>",@function
+"jbig2_symbol::collective::read_mmr_rows::<#34eeb9d33d43f665>":
 	pushq	%rbp
 	pushq	%r15
 	pushq	%r14
@@ -29317,7 +29317,7 @@
 	movq	%rax, 40(%r13)
 	jmp	.LBB70_17
 .Lfunc_end70:
-	.size	"jbig2_symbol::bitmaps::read_mmr_rows::<#34eeb9d33d43f665>", .Lfunc_end70-"jbig2_symbol::bitmaps::read_mmr_rows::<#34eeb9d33d43f665>"
+	.size	"jbig2_symbol::collective::read_mmr_rows::<#34eeb9d33d43f665>", .Lfunc_end70-"jbig2_symbol::collective::read_mmr_rows::<#34eeb9d33d43f665>"
 
 	.section	".text.jbig2_base::bitmap::Bitmap::new_wide::<#ebb6c7e39043b405>","ax",@progbits
 	.p2align	4
@@ -32620,7 +32620,7 @@
 	movl	$405, %edi
 	cmpb	$3, %bpl
 	je	.LBB81_5
-	leaq	".Lswitch.table.jbig2_page::region::parse_region::<#f6a64cf450531408>.863"(%rip), %rax
+	leaq	".Lswitch.table.jbig2_page::region::parse_region::<#f6a64cf450531408>.862"(%rip), %rax
 	movq	48(%rsp), %rcx
 	movl	(%rax,%rcx,4), %edi
 	jmp	.LBB81_5
@@ -32860,7 +32860,7 @@
 	movl	%esi, 368(%rsp)
 	testb	%sil, %sil
 	je	.LBB81_42
-	leaq	".Lswitch.table.jbig2_region::generic_coding::decode_coded::<#34eeb9d33d43f665>.861"(%rip), %rdi
+	leaq	".Lswitch.table.jbig2_region::generic_coding::decode_coded::<#34eeb9d33d43f665>.860"(%rip), %rdi
 	movl	(%rdi,%rax,4), %eax
 	movl	%eax, 284(%rsp)
 .LBB81_42:
@@ -39953,10 +39953,10 @@
 .Lfunc_end91:
 	.size	"std_alloc::vec::Vec::grow_amortized::<#04cd21018f22c1b3>", .Lfunc_end91-"std_alloc::vec::Vec::grow_amortized::<#04cd21018f22c1b3>"
 
-	.section	".text.jbig2_page::drawing::dictionaries::keep_patterns::<#f6a64cf450531408>","ax",@progbits
+	.section	".text.jbig2_page::kept::segments::keep_patterns::<#f6a64cf450531408>","ax",@progbits
 	.p2align	4
-	.type	"jbig2_page::drawing::dictionaries::keep_patterns::<#f6a64cf450531408>",@function
-"jbig2_page::drawing::dictionaries::keep_patterns::<#f6a64cf450531408>":
+	.type	"jbig2_page::kept::segments::keep_patterns::<#f6a64cf450531408>",@function
+"jbig2_page::kept::segments::keep_patterns::<#f6a64cf450531408>":
 	pushq	%rbp
 	pushq	%r15
 	pushq	%r14
@@ -40126,7 +40126,7 @@
 	movq	%r14, %rdi
 	jmp	.LBB92_26
 .Lfunc_end92:
-	.size	"jbig2_page::drawing::dictionaries::keep_patterns::<#f6a64cf450531408>", .Lfunc_end92-"jbig2_page::drawing::dictionaries::keep_patterns::<#f6a64cf450531408>"
+	.size	"jbig2_page::kept::segments::keep_patterns::<#f6a64cf450531408>", .Lfunc_end92-"jbig2_page::kept::segments::keep_patterns::<#f6a64cf450531408>"
 
 	.section	".text.jbig2_halftone::pattern::decode::<#ac752097050367f9>","ax",@progbits
 	.p2align	4
@@ -40683,10 +40683,10 @@
 .Lfunc_end95:
 	.size	"std_alloc::vec::Vec::grow_amortized::<#3f0588d6f8406152>", .Lfunc_end95-"std_alloc::vec::Vec::grow_amortized::<#3f0588d6f8406152>"
 
-	.section	".text.jbig2_page::drawing::dictionaries::keep_table::<#98122509696db2bb>","ax",@progbits
+	.section	".text.jbig2_page::kept::segments::keep_table::<#98122509696db2bb>","ax",@progbits
 	.p2align	4
-	.type	"jbig2_page::drawing::dictionaries::keep_table::<#98122509696db2bb>",@function
-"jbig2_page::drawing::dictionaries::keep_table::<#98122509696db2bb>":
+	.type	"jbig2_page::kept::segments::keep_table::<#98122509696db2bb>",@function
+"jbig2_page::kept::segments::keep_table::<#98122509696db2bb>":
 	pushq	%rbp
 	pushq	%r15
 	pushq	%r14
@@ -40783,7 +40783,7 @@
 	callq	rattle_dealloc@PLT
 	jmp	.LBB96_9
 .Lfunc_end96:
-	.size	"jbig2_page::drawing::dictionaries::keep_table::<#98122509696db2bb>", .Lfunc_end96-"jbig2_page::drawing::dictionaries::keep_table::<#98122509696db2bb>"
+	.size	"jbig2_page::kept::segments::keep_table::<#98122509696db2bb>", .Lfunc_end96-"jbig2_page::kept::segments::keep_table::<#98122509696db2bb>"
 
 	.section	".text.jbig2_coder::huffman_table::HuffmanTable::read_custom::<#98122509696db2bb>","ax",@progbits
 	.p2align	4
@@ -44353,7 +44353,7 @@
 	movl	$405, %edi
 	cmpb	$2, 80(%rsp)
 	ja	.LBB100_294
-	leaq	".Lswitch.table.jbig2_page::region::parse_region::<#f6a64cf450531408>.863"(%rip), %rax
+	leaq	".Lswitch.table.jbig2_page::region::parse_region::<#f6a64cf450531408>.862"(%rip), %rax
 	movq	80(%rsp), %rcx
 	movl	(%rax,%rcx,4), %edi
 .LBB100_294:
@@ -44427,7 +44427,7 @@
 	movl	$405, %edi
 	cmpb	$2, 80(%rsp)
 	ja	.LBB100_303
-	leaq	".Lswitch.table.jbig2_page::region::parse_region::<#f6a64cf450531408>.863"(%rip), %rax
+	leaq	".Lswitch.table.jbig2_page::region::parse_region::<#f6a64cf450531408>.862"(%rip), %rax
 	movq	80(%rsp), %rcx
 	movl	(%rax,%rcx,4), %edi
 .LBB100_303:
@@ -47359,14 +47359,14 @@
 	leaq	".Lswitch.table.jbig2_halftone::gray_scale::planes::decode_plane::<#164ac9d7acfdf4c6>"(%rip), %rdx
 	movl	(%rcx,%rdx), %edx
 	movl	%edx, 44(%rsp)
-	leaq	".Lswitch.table.jbig2_halftone::gray_scale::planes::decode_plane::<#164ac9d7acfdf4c6>.864"(%rip), %rdx
+	leaq	".Lswitch.table.jbig2_halftone::gray_scale::planes::decode_plane::<#164ac9d7acfdf4c6>.863"(%rip), %rdx
 	movl	(%rcx,%rdx), %edx
 	movl	%edx, 60(%rsp)
-	leaq	".Lswitch.table.jbig2_halftone::gray_scale::planes::decode_plane::<#164ac9d7acfdf4c6>.865"(%rip), %rdx
+	leaq	".Lswitch.table.jbig2_halftone::gray_scale::planes::decode_plane::<#164ac9d7acfdf4c6>.864"(%rip), %rdx
 	movl	(%rcx,%rdx), %ecx
 	movl	%ecx, 40(%rsp)
 	leal	53(%rax), %edx
-	leaq	".Lswitch.table.jbig2_halftone::gray_scale::planes::decode_plane::<#164ac9d7acfdf4c6>.866"(%rip), %rcx
+	leaq	".Lswitch.table.jbig2_halftone::gray_scale::planes::decode_plane::<#164ac9d7acfdf4c6>.865"(%rip), %rcx
 	movq	(%rcx,%rax,8), %rax
 .LBB109_10:
 	cmpl	$0, (%r14)
@@ -53002,7 +53002,7 @@
 	movq	%rdi, %rbx
 	movq	%rax, %rdi
 	movq	%r8, %rdx
-	callq	"jbig2_page::drawing::dictionaries::keep_table::<#98122509696db2bb>"
+	callq	"jbig2_page::kept::segments::keep_table::<#98122509696db2bb>"
 	movq	%rbx, %rdi
 	jmp	.LBB128_9
 .LBB128_4:
@@ -53021,7 +53021,7 @@
 	movq	%rcx, %rdi
 	movq	%rdx, %rcx
 	movl	%eax, %edx
-	callq	"jbig2_page::drawing::dictionaries::keep_symbols::<#f6a64cf450531408>"
+	callq	"jbig2_page::kept::segments::keep_symbols::<#f6a64cf450531408>"
 	movq	%rbx, %rdi
 	jmp	.LBB128_9
 .LBB128_8:
@@ -53037,7 +53037,7 @@
 	movq	%r8, %rcx
 	movq	%r9, %r8
 	movq	%rax, %r9
-	callq	"jbig2_page::drawing::dictionaries::keep_patterns::<#f6a64cf450531408>"
+	callq	"jbig2_page::kept::segments::keep_patterns::<#f6a64cf450531408>"
 	movq	%rbx, %rdi
 	jmp	.LBB128_9
 .LBB128_6:
@@ -63787,44 +63787,44 @@ main:
 	.quad	5
 	.size	".Lswitch.table.jbig2_coder::huffman_table::standard::StandardHuffmanTables::new::<#98122509696db2bb>", 112
 
-	.type	".Lswitch.table.jbig2_coder::huffman_table::standard::StandardHuffmanTables::new::<#98122509696db2bb>.860.rel",@object
-	.section	".rodata..Lswitch.table.jbig2_coder::huffman_table::standard::StandardHuffmanTables::new::<#98122509696db2bb>.860.rel","a",@progbits
+	.type	".Lswitch.table.jbig2_coder::huffman_table::standard::StandardHuffmanTables::new::<#98122509696db2bb>.859.rel",@object
+	.section	".rodata..Lswitch.table.jbig2_coder::huffman_table::standard::StandardHuffmanTables::new::<#98122509696db2bb>.859.rel","a",@progbits
 	.p2align	2, 0x0
-".Lswitch.table.jbig2_coder::huffman_table::standard::StandardHuffmanTables::new::<#98122509696db2bb>.860.rel":
-	.long	.Lstatic.10-".Lswitch.table.jbig2_coder::huffman_table::standard::StandardHuffmanTables::new::<#98122509696db2bb>.860.rel"
-	.long	.Lstatic.11-".Lswitch.table.jbig2_coder::huffman_table::standard::StandardHuffmanTables::new::<#98122509696db2bb>.860.rel"
-	.long	.Lstatic.12-".Lswitch.table.jbig2_coder::huffman_table::standard::StandardHuffmanTables::new::<#98122509696db2bb>.860.rel"
-	.long	.Lstatic.13-".Lswitch.table.jbig2_coder::huffman_table::standard::StandardHuffmanTables::new::<#98122509696db2bb>.860.rel"
-	.long	.Lstatic.14-".Lswitch.table.jbig2_coder::huffman_table::standard::StandardHuffmanTables::new::<#98122509696db2bb>.860.rel"
-	.long	.Lstatic.15-".Lswitch.table.jbig2_coder::huffman_table::standard::StandardHuffmanTables::new::<#98122509696db2bb>.860.rel"
-	.long	.Lstatic.16-".Lswitch.table.jbig2_coder::huffman_table::standard::StandardHuffmanTables::new::<#98122509696db2bb>.860.rel"
-	.long	.Lstatic.17-".Lswitch.table.jbig2_coder::huffman_table::standard::StandardHuffmanTables::new::<#98122509696db2bb>.860.rel"
-	.long	.Lstatic.18-".Lswitch.table.jbig2_coder::huffman_table::standard::StandardHuffmanTables::new::<#98122509696db2bb>.860.rel"
-	.long	.Lstatic.19-".Lswitch.table.jbig2_coder::huffman_table::standard::StandardHuffmanTables::new::<#98122509696db2bb>.860.rel"
-	.long	.Lstatic.20-".Lswitch.table.jbig2_coder::huffman_table::standard::StandardHuffmanTables::new::<#98122509696db2bb>.860.rel"
-	.long	.Lstatic.21-".Lswitch.table.jbig2_coder::huffman_table::standard::StandardHuffmanTables::new::<#98122509696db2bb>.860.rel"
-	.long	.Lstatic.22-".Lswitch.table.jbig2_coder::huffman_table::standard::StandardHuffmanTables::new::<#98122509696db2bb>.860.rel"
-	.long	.Lstatic.23-".Lswitch.table.jbig2_coder::huffman_table::standard::StandardHuffmanTables::new::<#98122509696db2bb>.860.rel"
-	.size	".Lswitch.table.jbig2_coder::huffman_table::standard::StandardHuffmanTables::new::<#98122509696db2bb>.860.rel", 56
+".Lswitch.table.jbig2_coder::huffman_table::standard::StandardHuffmanTables::new::<#98122509696db2bb>.859.rel":
+	.long	.Lstatic.10-".Lswitch.table.jbig2_coder::huffman_table::standard::StandardHuffmanTables::new::<#98122509696db2bb>.859.rel"
+	.long	.Lstatic.11-".Lswitch.table.jbig2_coder::huffman_table::standard::StandardHuffmanTables::new::<#98122509696db2bb>.859.rel"
+	.long	.Lstatic.12-".Lswitch.table.jbig2_coder::huffman_table::standard::StandardHuffmanTables::new::<#98122509696db2bb>.859.rel"
+	.long	.Lstatic.13-".Lswitch.table.jbig2_coder::huffman_table::standard::StandardHuffmanTables::new::<#98122509696db2bb>.859.rel"
+	.long	.Lstatic.14-".Lswitch.table.jbig2_coder::huffman_table::standard::StandardHuffmanTables::new::<#98122509696db2bb>.859.rel"
+	.long	.Lstatic.15-".Lswitch.table.jbig2_coder::huffman_table::standard::StandardHuffmanTables::new::<#98122509696db2bb>.859.rel"
+	.long	.Lstatic.16-".Lswitch.table.jbig2_coder::huffman_table::standard::StandardHuffmanTables::new::<#98122509696db2bb>.859.rel"
+	.long	.Lstatic.17-".Lswitch.table.jbig2_coder::huffman_table::standard::StandardHuffmanTables::new::<#98122509696db2bb>.859.rel"
+	.long	.Lstatic.18-".Lswitch.table.jbig2_coder::huffman_table::standard::StandardHuffmanTables::new::<#98122509696db2bb>.859.rel"
+	.long	.Lstatic.19-".Lswitch.table.jbig2_coder::huffman_table::standard::StandardHuffmanTables::new::<#98122509696db2bb>.859.rel"
+	.long	.Lstatic.20-".Lswitch.table.jbig2_coder::huffman_table::standard::StandardHuffmanTables::new::<#98122509696db2bb>.859.rel"
+	.long	.Lstatic.21-".Lswitch.table.jbig2_coder::huffman_table::standard::StandardHuffmanTables::new::<#98122509696db2bb>.859.rel"
+	.long	.Lstatic.22-".Lswitch.table.jbig2_coder::huffman_table::standard::StandardHuffmanTables::new::<#98122509696db2bb>.859.rel"
+	.long	.Lstatic.23-".Lswitch.table.jbig2_coder::huffman_table::standard::StandardHuffmanTables::new::<#98122509696db2bb>.859.rel"
+	.size	".Lswitch.table.jbig2_coder::huffman_table::standard::StandardHuffmanTables::new::<#98122509696db2bb>.859.rel", 56
 
-	.type	".Lswitch.table.jbig2_region::generic_coding::decode_coded::<#34eeb9d33d43f665>.861",@object
+	.type	".Lswitch.table.jbig2_region::generic_coding::decode_coded::<#34eeb9d33d43f665>.860",@object
 	.section	.rodata.cst16,"aM",@progbits,16
 	.p2align	2, 0x0
-".Lswitch.table.jbig2_region::generic_coding::decode_coded::<#34eeb9d33d43f665>.861":
+".Lswitch.table.jbig2_region::generic_coding::decode_coded::<#34eeb9d33d43f665>.860":
 	.long	39717
 	.long	1941
 	.long	229
 	.long	405
-	.size	".Lswitch.table.jbig2_region::generic_coding::decode_coded::<#34eeb9d33d43f665>.861", 16
+	.size	".Lswitch.table.jbig2_region::generic_coding::decode_coded::<#34eeb9d33d43f665>.860", 16
 
-	.type	".Lswitch.table.jbig2_page::region::parse_region::<#f6a64cf450531408>.863",@object
-	.section	".rodata..Lswitch.table.jbig2_page::region::parse_region::<#f6a64cf450531408>.863","a",@progbits
+	.type	".Lswitch.table.jbig2_page::region::parse_region::<#f6a64cf450531408>.862",@object
+	.section	".rodata..Lswitch.table.jbig2_page::region::parse_region::<#f6a64cf450531408>.862","a",@progbits
 	.p2align	2, 0x0
-".Lswitch.table.jbig2_page::region::parse_region::<#f6a64cf450531408>.863":
+".Lswitch.table.jbig2_page::region::parse_region::<#f6a64cf450531408>.862":
 	.long	39717
 	.long	1941
 	.long	229
-	.size	".Lswitch.table.jbig2_page::region::parse_region::<#f6a64cf450531408>.863", 12
+	.size	".Lswitch.table.jbig2_page::region::parse_region::<#f6a64cf450531408>.862", 12
 
 	.type	".Lswitch.table.jbig2_halftone::gray_scale::planes::decode_plane::<#164ac9d7acfdf4c6>",@object
 	.section	".rodata..Lswitch.table.jbig2_halftone::gray_scale::planes::decode_plane::<#164ac9d7acfdf4c6>","a",@progbits
@@ -63835,32 +63835,32 @@ main:
 	.long	4
 	.size	".Lswitch.table.jbig2_halftone::gray_scale::planes::decode_plane::<#164ac9d7acfdf4c6>", 12
 
+	.type	".Lswitch.table.jbig2_halftone::gray_scale::planes::decode_plane::<#164ac9d7acfdf4c6>.863",@object
+	.section	".rodata..Lswitch.table.jbig2_halftone::gray_scale::planes::decode_plane::<#164ac9d7acfdf4c6>.863","a",@progbits
+	.p2align	2, 0x0
+".Lswitch.table.jbig2_halftone::gray_scale::planes::decode_plane::<#164ac9d7acfdf4c6>.863":
+	.long	52
+	.long	53
+	.long	53
+	.size	".Lswitch.table.jbig2_halftone::gray_scale::planes::decode_plane::<#164ac9d7acfdf4c6>.863", 12
+
 	.type	".Lswitch.table.jbig2_halftone::gray_scale::planes::decode_plane::<#164ac9d7acfdf4c6>.864",@object
 	.section	".rodata..Lswitch.table.jbig2_halftone::gray_scale::planes::decode_plane::<#164ac9d7acfdf4c6>.864","a",@progbits
 	.p2align	2, 0x0
 ".Lswitch.table.jbig2_halftone::gray_scale::planes::decode_plane::<#164ac9d7acfdf4c6>.864":
-	.long	52
-	.long	53
-	.long	53
+	.long	6
+	.long	5
+	.long	6
 	.size	".Lswitch.table.jbig2_halftone::gray_scale::planes::decode_plane::<#164ac9d7acfdf4c6>.864", 12
 
 	.type	".Lswitch.table.jbig2_halftone::gray_scale::planes::decode_plane::<#164ac9d7acfdf4c6>.865",@object
 	.section	".rodata..Lswitch.table.jbig2_halftone::gray_scale::planes::decode_plane::<#164ac9d7acfdf4c6>.865","a",@progbits
-	.p2align	2, 0x0
-".Lswitch.table.jbig2_halftone::gray_scale::planes::decode_plane::<#164ac9d7acfdf4c6>.865":
-	.long	6
-	.long	5
-	.long	6
-	.size	".Lswitch.table.jbig2_halftone::gray_scale::planes::decode_plane::<#164ac9d7acfdf4c6>.865", 12
-
-	.type	".Lswitch.table.jbig2_halftone::gray_scale::planes::decode_plane::<#164ac9d7acfdf4c6>.866",@object
-	.section	".rodata..Lswitch.table.jbig2_halftone::gray_scale::planes::decode_plane::<#164ac9d7acfdf4c6>.866","a",@progbits
 	.p2align	3, 0x0
-".Lswitch.table.jbig2_halftone::gray_scale::planes::decode_plane::<#164ac9d7acfdf4c6>.866":
+".Lswitch.table.jbig2_halftone::gray_scale::planes::decode_plane::<#164ac9d7acfdf4c6>.865":
 	.quad	4
 	.quad	3
 	.quad	0
-	.size	".Lswitch.table.jbig2_halftone::gray_scale::planes::decode_plane::<#164ac9d7acfdf4c6>.866", 24
+	.size	".Lswitch.table.jbig2_halftone::gray_scale::planes::decode_plane::<#164ac9d7acfdf4c6>.865", 24
 
 	.type	".Lswitch.table.jbig2_halftone::halftone::read_cells::<#e1f39c13af5312ba>",@object
 	.section	.rodata.cst32,"aM",@progbits,32
