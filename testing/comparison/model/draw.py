@@ -1,6 +1,6 @@
 """Draws a page of a file by the model, as `jbig2-decode pbm` does, with the same errors; slowly.
 
-usage: python3 -m testing.comparison.draw [--strict] FILE INDEX
+usage: python3 -m testing.comparison.model.draw [--strict] FILE INDEX
 """
 import sys
 
