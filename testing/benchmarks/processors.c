@@ -1,7 +1,7 @@
 /*
  * Work that is no decoder's, to see what several processors give: by itself, and with memory.
  *
- * usage: four arithmetic|memory TURNS
+ * usage: processors arithmetic|memory TURNS
  *
  * A turn is a million steps: of arithmetic in registers, or each reading and changing a word at a random place of 8 MB.
  * Prints the seconds that passed and the seconds of the processor.

@@ -1,7 +1,7 @@
-"""usage: testing/benchmarks/four [--rounds N] [--pages N] FILE.jb2 ..
+"""usage: testing/benchmarks/processors [--rounds N] [--pages N] FILE.jb2 ..
 
 What this machine gives: each kind of work by one process, then by as many at once as there are processors, in turns. The
-kinds are arithmetic alone, steps through 8 MB (four.c), and pages of a document with shared globals of each file's first
+kinds are arithmetic alone, steps through 8 MB (processors.c), and pages of a document with shared globals of each file's first
 page, by handles and by libjbig2dec (documents.c), in processes of their own and in the threads of one.
 
 For each it prints, from the least of N rounds (5): how many times the speed of one, which only a machine with nothing else
@@ -29,15 +29,15 @@ def at_once(words: list[str], count: int) -> tuple[float, float]:
     running = [subprocess.Popen(words, stdout=subprocess.PIPE, text=True) for _ in range(count)]
     times = [[float(word) for word in process.communicate()[0].split()] for process in running]
     if any(process.returncode != 0 for process in running):
-        sys.exit(f"four: {' '.join(words)} failed")
+        sys.exit(f"processors: {' '.join(words)} failed")
     return max(passed for passed, _ in times), sum(used for _, used in times) / count
 
 
 def built(room: pathlib.Path) -> None:
-    """Compiles four.c and documents.c."""
+    """Compiles processors.c and documents.c."""
     compiler = [os.environ.get("CC", "cc"), "-std=gnu11", "-Wall", "-Wextra", "-O2", "-pthread"]
     subprocess.run([ROOT / "bindings" / "c" / "build"], check=True)
-    subprocess.run([*compiler, str(HERE / "four.c"), "-o", str(room / "four")], check=True)
+    subprocess.run([*compiler, str(HERE / "processors.c"), "-o", str(room / "processors")], check=True)
     sources = [str(HERE / "documents.c"), str(ROOT / "bindings" / "c" / "out" / "libhayro_jbig2.a")]
     folders = [f"-I{ROOT}/bindings/c", f"-I{ROOT}/bindings/dropin/source"]
     subprocess.run([*compiler, *folders, *sources, "-ldl", "-o", str(room / "documents")], check=True)
@@ -45,7 +45,7 @@ def built(room: pathlib.Path) -> None:
 
 def kinds(files: list[pathlib.Path], pages: int, room: pathlib.Path) -> dict[str, list[list[str]]]:
     """By its name the command of each kind of work: of one, and of a thread for each processor where it has threads."""
-    found = {name: [[str(room / "four"), name, str(pages)]] for name in ("arithmetic", "memory")}
+    found = {name: [[str(room / "processors"), name, str(pages)]] for name in ("arithmetic", "memory")}
     ways = {"handles": "handles"}
     if ctypes.util.find_library("jbig2dec"):
         ways["libjbig2dec"] = ctypes.util.find_library("jbig2dec")
