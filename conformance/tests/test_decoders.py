@@ -1,4 +1,4 @@
-"""Decoders that a script makes: what is said where it was not run, and their versions."""
+"""Names of decoders; of those that a script makes, what is said where it was not run, and their versions."""
 import dataclasses
 import pathlib
 import tempfile
@@ -24,6 +24,8 @@ class DecodersTest(unittest.TestCase):
     def test_names(self):
         for decoder in DECODERS:
             self.assertIs(decoder_of([decoder.name]), decoder)
+        with self.assertRaises(ValueError):
+            decoder_of(["unheard-of"])
         self.assertEqual({decoder.name for decoder in DECODERS if not decoder.package}, {"jbig2-decode", "drop-in"})
         self.assertEqual(decoder_of(["drop-in"]).version(), "this tree")
 

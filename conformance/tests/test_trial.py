@@ -4,11 +4,9 @@ import sys
 import tempfile
 import time
 import unittest
-from collections import namedtuple
-from unittest import mock
 
-from conformance.runner.decoders import DECODERS, Decoder, decoder_of
-from conformance.runner.limits import MOST_OUTPUT, Limits, folder_in_memory
+from conformance.runner.decoders import Decoder, decoder_of
+from conformance.runner.limits import Limits
 from conformance.runner.pictures import plain
 from conformance.runner.trial import Verdict, tried
 from conformance.tests.small_suite import CROSS, RING, of_numbers, written
@@ -67,14 +65,6 @@ class TrialTest(unittest.TestCase):
         self.assertIs(self.verdict(script(f"os.system('sleep {LONG}')"), limits=SHORT), Verdict.LATE)
         self.assertLess(time.monotonic() - began, LONG / 2)
 
-    def test_files_are_in_memory_where_there_is_room(self):
-        usage = namedtuple("usage", "free")
-        for free, folder in ((MOST_OUTPUT, None), (MOST_OUTPUT + 1, "/dev/shm")):
-            with mock.patch("shutil.disk_usage", return_value=usage(free)), mock.patch("os.access", return_value=True):
-                self.assertEqual(folder_in_memory(MOST_OUTPUT), folder)
-        with mock.patch("os.access", return_value=False):
-            self.assertIsNone(folder_in_memory(0))
-
     def test_an_output_without_end(self):
         decoder = decoder_of(["sh", "-c", "exec yes", "{in}"])
         self.assertIs(self.verdict(decoder), Verdict.LATE)
@@ -122,11 +112,6 @@ class TrialTest(unittest.TestCase):
         command = f"{sys.executable} -c \"import sys; sys.exit('error: a\\tb\\x1b')\" {{in}}"
         fault = tried(Decoder("fake", command, strict="-I"), self.samples["sequential"], LIMITS).fault
         self.assertTrue(fault.startswith("lenient: a b , not picture"), fault)
-
-    def test_names(self):
-        self.assertIs(decoder_of(["gs"]), next(decoder for decoder in DECODERS if decoder.name == "gs"))
-        with self.assertRaises(ValueError):
-            decoder_of(["unheard-of"])
 
 
 if __name__ == "__main__":

@@ -39,6 +39,10 @@ class Data(unittest.TestCase):
             self.assertEqual(hayro_jbig2.decode(TEXT, globals=path).rows, b"\x80")
             self.assertEqual(hayro_jbig2.decode(TEXT, globals=hayro_jbig2.Globals(str(path))).rows, b"\x80")
 
+    def test_any_buffer_is_data(self):
+        for data in bytearray(BOOK), memoryview(BOOK), memoryview(BOOK + b"x")[:-1]:
+            self.assertEqual(hayro_jbig2.decode(data), hayro_jbig2.decode(BOOK))
+
     def test_what_files_and_paths_may_be(self):
         class Reader:
             def __init__(self, content):

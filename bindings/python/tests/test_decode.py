@@ -38,10 +38,6 @@ class Pages(unittest.TestCase):
         self.assertEqual(page.to_pbm(), b"P4\n37 8\n" + bytes(page.rows))
         self.assertEqual(repr(page), "Page(number=3, width=37, height=8)")
 
-    def test_any_buffer_is_data(self):
-        for data in bytearray(BOOK), memoryview(BOOK), memoryview(BOOK + b"x")[:-1]:
-            self.assertEqual(hayro_jbig2.decode(data), hayro_jbig2.decode(BOOK))
-
     def test_globals(self):
         shared = hayro_jbig2.Globals(GLOBALS)
         for globals in GLOBALS, memoryview(GLOBALS), shared, shared:

@@ -1,6 +1,6 @@
 /**
  * The heap, beside a list of the blocks that are held: blocks at random are aligned, overlap no other one, and keep what is
- * written into them, while the memory grows.
+ * written into them, while the memory grows. Blocks that stay are handed out again once they are given back.
  *
  * usage: node bindings/web/tests/heap.mjs
  */
@@ -48,6 +48,31 @@ function takeSome(heap, memory, held, mark) {
   held.push({ block, size, mark });
 }
 
+/** What is given back among what stays is handed out again, and what comes after it begins anew. */
+function checkStaying() {
+  const { heap } = begun(PAGE + 8192);
+  const staying = [1024, 2048, 512].map((size) => heap.take(size));
+  heap.give(staying[1], 2048);
+  heap.stay();
+  for (let size = 256; size <= 8192; size += 256) {
+    const wanted = 256 + (size % 4096);
+    const block = heap.take(wanted);
+    check(block !== 0 && (block === staying[1]) === (wanted === 2048), `${wanted} bytes while others stay`);
+    heap.give(block, wanted);
+  }
+  // What is held beyond what stays is not handed out again, even where as much of that was given back.
+  const beyond = heap.take(1024);
+  heap.give(staying[0], 1024);
+  const after = heap.take(3072);
+  check(after >= beyond + 1024, "a block that is held is handed out again");
+  heap.give(after, 3072);
+  heap.give(beyond, 1024);
+  check(heap.held === 512 && heap.take(1024) === staying[0], "what stayed and was given back is lost");
+  heap.give(staying[0], 1024);
+  heap.give(staying[2], 512);
+  check(heap.held === 0 && heap.take(8192) === PAGE, "nothing is held, and not all is free");
+}
+
 for (let round = 0; round < ROUNDS; round++) {
   const { heap, memory } = begun(2 ** 26);
   const held = [];
@@ -60,6 +85,8 @@ for (let round = 0; round < ROUNDS; round++) {
   check(heap.held === 0 && heap.take(1) === PAGE && memory.buffer.byteLength === size, "the heap doesn't begin anew");
 }
 
+checkStaying();
+
 // What can't be had: more than the most, than the memory may grow to, than a word of 32 bits says, or another alignment.
 for (const [size, align] of [[2 ** 25, 8], [2 ** 32, 8], [2 ** 32 + 16, 8], [2 ** 64 - 1, 8], [16, 32]]) {
   const { heap, memory } = begun(size === 2 ** 25 ? 2 ** 25 : Infinity);
@@ -68,5 +95,5 @@ for (const [size, align] of [[2 ** 25, 8], [2 ** 32, 8], [2 ** 32 + 16, 8], [2 *
   check(new Uint8Array(memory.buffer)[0] === 0 && heap.held === 0, `a block of ${size} bytes, aligned to ${align}`);
   check(heap.take(16) === PAGE, `the heap after a block of ${size} bytes that it has not`);
 }
-console.log(`heap: ${ROUNDS * STEPS} steps, and what can't be had: ${failed} faults`);
+console.log(`heap: ${ROUNDS * STEPS} steps, what stays, and what can't be had: ${failed} faults`);
 process.exit(failed ? 1 : 0);

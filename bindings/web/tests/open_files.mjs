@@ -235,32 +235,6 @@ async function checkRoom() {
   }
 }
 
-/** What is given back among what stays is handed out again, and what comes after it begins anew. */
-function checkHeap() {
-  const heap = new Heap(65536 + 8192);
-  heap.begin(new WebAssembly.Memory({ initial: 1 }));
-  const staying = [1024, 2048, 512].map((size) => heap.take(size));
-  heap.give(staying[1], 2048);
-  heap.stay();
-  for (let size = 256; size <= 8192; size += 256) {
-    const wanted = 256 + (size % 4096);
-    const block = heap.take(wanted);
-    check(block !== 0 && (block === staying[1]) === (wanted === 2048), `${wanted} bytes while others stay`);
-    heap.give(block, wanted);
-  }
-  // What is held beyond what stays is not handed out again, even where as much of that was given back.
-  const beyond = heap.take(1024);
-  heap.give(staying[0], 1024);
-  const after = heap.take(3072);
-  check(after >= beyond + 1024, "a block that is held is handed out again");
-  heap.give(after, 3072);
-  heap.give(beyond, 1024);
-  check(heap.held === 512 && heap.take(1024) === staying[0], "what stayed and was given back is lost");
-  heap.give(staying[0], 1024);
-  heap.give(staying[2], 512);
-  check(heap.held === 0 && heap.take(8192) === 65536, "nothing is held, and not all is free");
-}
-
 /** Whichever call doesn't return, the decoder is broken, and says so from then on. */
 async function checkTraps() {
   counts.clear();
@@ -309,7 +283,6 @@ checkGlobals();
 checkSharedGlobals();
 checkRefusedRequests();
 checkReadings();
-checkHeap();
 checkLargeArrays();
 await checkRoom();
 await checkTraps();

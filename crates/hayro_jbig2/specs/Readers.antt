@@ -7,8 +7,8 @@ use Rattle.jbig2_base.specs.declared.error.DecodeError.{DecodeError}
 use Rattle.jbig2_base.specs.declared.error.DecodeError.TheVariants.{OutOfMemory}
 use Rattle.jbig2_page.specs.Returned.{IsReturned}
 use Rattle.jbig2_page.specs.FirstPage.{first_size}
-use Rattle.hayro_jbig2.specs.declared.jbig2_decoder.jbig2_error.Jbig2Error.{Jbig2Error}
-use Rattle.hayro_jbig2.specs.declared.jbig2_decoder.jbig2_error.Jbig2Error.TheVariants.{Io, Decode}
+use Rattle.hayro_jbig2.specs.declared.jbig2_error.Jbig2Error.{Jbig2Error}
+use Rattle.hayro_jbig2.specs.declared.jbig2_error.Jbig2Error.TheVariants.{Io, Decode}
 
 pub record Scan : Type 0 where  -- all bytes of a file, and the size of its first page
   pub bytes : List ℕ

@@ -11,13 +11,10 @@ ghost use Rattle.hayro_jbig2.specs.WorkLimit.{TakesUnits};
 ghost use Rattle.jbig2_page.specs.FirstPage.{first_image, first_packed, first_size};
 ghost use Rattle.jbig2_page.specs.Image.{packed_size};
 
-pub(crate) mod jbig2_error;
-pub mod reading;
-
 use crate::file::File;
-use crate::jbig2_decoder::jbig2_error::Jbig2Error;
-use crate::jbig2_decoder::reading::read_all;
+use crate::jbig2_error::Jbig2Error;
 use crate::page::Page;
+use crate::reading::read_all;
 use crate::settings::DecodeSettings;
 use crate::work_limit::WorkLimit;
 use jbig2_base::error::{DecodeError, FormatError};

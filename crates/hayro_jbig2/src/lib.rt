@@ -13,8 +13,10 @@ mod drawn_page;
 mod file;
 mod globals;
 mod jbig2_decoder;
+mod jbig2_error;
 mod page;
 pub mod parts;
+pub mod reading;
 mod settings;
 mod step_count;
 mod work_limit;
@@ -28,8 +30,8 @@ pub use jbig2_base::error::{
     DecodeError, FormatError, HuffmanError, OverflowError, ParseError, RegionError, Result,
     SegmentError, SymbolError, TemplateError,
 };
-pub use jbig2_decoder::jbig2_error::Jbig2Error;
-pub use jbig2_decoder::{Jbig2Decoder, reading};
+pub use jbig2_decoder::Jbig2Decoder;
+pub use jbig2_error::Jbig2Error;
 pub use jbig2_framing::cut_off::CutOff;
 pub use jbig2_page::laws;
 pub use jbig2_page::page::decoder::Decoder;

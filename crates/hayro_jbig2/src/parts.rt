@@ -4,7 +4,7 @@ pub use jbig2_coder::{arithmetic_decoder, huffman_table, integer_decoder, mq, sy
 pub use jbig2_framing::{file, page_info, reading, segment};
 pub use jbig2_halftone::{gray_scale, halftone, pattern};
 pub use jbig2_mmr::mmr;
-pub use jbig2_region::{generic, generic_refinement, region_info, template};
+pub use jbig2_region::{decoded_region, generic, generic_refinement, region_info, template};
 pub use jbig2_steps as steps;
 pub use jbig2_symbol as symbol;
 pub use jbig2_text as text;

@@ -30,7 +30,7 @@ impl Model for WorkLimit {
     } };
 }
 
-/// A counter that may take as many units as `limit` has, or any number if it is `None`.
+/// A counter that may take as many units as `limit` has, or 2^64 - 1 units if it is `None`.
 pub(crate) fn work_within<L: Ledger>(limit: Option<u64>, blank: Blank) -> Work<L>
     requires name { blank.name ≡ L.name }
     requires parts { blank.parts ≡ L.parts }

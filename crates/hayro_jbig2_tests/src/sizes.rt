@@ -3,8 +3,8 @@ ghost use Rattle.std.specs.Prelude.{◌≡◌};
 
 use crate::bytes::bytes_of;
 use hayro_jbig2::{DecodeError, DecodeSettings, Decoder, DecoderContext, Page, Result};
+use jbig2_rows::answer::Answer;
 use jbig2_rows::call::WHITE;
-use jbig2_rows::case::Answer;
 use jbig2_rows::drawing::page_holds;
 use jbig2_rows::watcher::Watcher;
 use std::alloc::Global;

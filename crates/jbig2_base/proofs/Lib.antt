@@ -11,7 +11,6 @@ pub mod ErrorSteps
 pub mod FillLemmas
 pub mod FromInput
 pub mod GridLemmas
-pub mod LaneCounts
 pub mod MadeLemmas
 pub mod NumberLemmas
 mod OperatorCauses

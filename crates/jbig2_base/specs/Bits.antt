@@ -53,3 +53,11 @@ bit n k = n / 2 ^ k % 2 == 1
 abbrev pub bit_number : Bool → ℕ
 bit_number true = 1
 bit_number false = 0
+
+unfoldable pub value_of_bits : List Bool → ℕ  -- the number that bits make, high bit first
+value_of_bits [] = 0
+value_of_bits (b ∷ bits) = bit_number b * 2 ^ length bits + value_of_bits bits
+
+abbrev pub number_of : List Bool → ℕ  -- the number that bits make, low bit first
+number_of [] = 0
+number_of (b ∷ bits) = bit_number b + 2 * number_of bits

@@ -1,7 +1,7 @@
 -- The rule that the bytes break where a call refuses them (docs/FORMAT.md), one line for each error. A predicate
 -- `Breaks..` takes the bytes and an error. The function that refuses states by `HasCause` that its error has that
 -- cause.
-use Rattle.std.specs.Prelude.{◌≡◌, ◌<◌, ◌≤◌, ◌*◌, ◌⊎◌, ℕ, List, take, drop, Result, Ok, IfErr}
+use Rattle.std.specs.Prelude.{◌≡◌, ◌<◌, ◌≤◌, ◌*◌, ◌^◌, ◌⊎◌, ℕ, ℤ, pos, negsuc, List, take, drop, Result, Ok, IfErr}
 use Rattle.std.specs.Int.{Width, byte_len, from_be_bytes}
 use Rattle.jbig2_base.specs.Grid.{max_side}
 use Rattle.jbig2_base.specs.declared.error.DecodeError.{DecodeError}
@@ -23,6 +23,10 @@ After {A} r P = (x : A) × (r ≡ Ok x) × P x
 
 abbrev pub number_in : Width → ℕ → List ℕ → ℕ  -- the number at this byte, high byte first
 number_in w place bytes = from_be_bytes w (take (byte_len w) (drop place bytes))
+
+abbrev pub LeavesWord : ℤ → Type 0  -- a number that does not fit signed 32 bits
+LeavesWord (pos n) = 2 ^ 31 ≤ n
+LeavesWord (negsuc n) = 2 ^ 31 ≤ n
 
 abbrev pub BreaksOperator : ℕ → DecodeError → Type 0  -- a combination operator (7.4.1.5)
 BreaksOperator n (Region InvalidCombinationOperator) = 5 ≤ n

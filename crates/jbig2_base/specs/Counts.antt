@@ -1,12 +1,7 @@
 -- How many steps calls take, by `Counts` before and after (our own rule; no part of the format).
-pub use Rattle.jbig2_steps.specs.Counts.{Counts, no_steps, words_cleared, words_copied, words_loaded, words_written}
+pub use Rattle.jbig2_steps.specs.Counts.{Counts, KeepsLanes, no_steps, words_cleared, words_copied, words_loaded, words_written}
 use Rattle.std.specs.Prelude.{◌≡◌, ℕ, ◌+◌, ◌-◌, ◌*◌, ◌/◌, ◌≤◌, ◌==◌, ◌||◌, if◌then◌else◌, nat_lt, min, ℤ, pos, negsuc, zero, suc}
 use Rattle.jbig2_base.specs.Grid.{Grid, max_side}
-
-pub record KeepsLanes (old new : Counts) : Type 0 where  -- no group of lanes, no single pixel and no cleared word was counted
-  pub groups : new.groups ≡ old.groups
-  pub pixels : new.pixels ≡ old.pixels
-  pub cleared : new.cleared ≡ old.cleared
 
 abbrev pub overlap : ℕ → ℕ → ℤ → ℕ  -- how many of a page's columns (or rows) a source covers that begins at x
 overlap page source (pos x) = min source (page - x)

@@ -14,8 +14,8 @@ use Rattle.jbig2_page.specs.Names.{no_names}
 use Rattle.jbig2_page.specs.Page.{page_from, grid_of_page}
 use Rattle.jbig2_page.specs.Globals.{globals_at, names_of}
 use Rattle.jbig2_page.specs.FirstPage.{first_image, first_size}
-use Rattle.hayro_jbig2.specs.declared.jbig2_decoder.jbig2_error.Jbig2Error.{Jbig2Error}
-use Rattle.hayro_jbig2.specs.declared.jbig2_decoder.jbig2_error.Jbig2Error.TheVariants.{Io, Decode}
+use Rattle.hayro_jbig2.specs.declared.jbig2_error.Jbig2Error.{Jbig2Error}
+use Rattle.hayro_jbig2.specs.declared.jbig2_error.Jbig2Error.TheVariants.{Io, Decode}
 
 -- the grid of a stream of a PDF file, with its globals if it has some
 abbrev pub grid_of_stream : Option (List ℕ) → List ℕ → Result Grid DecodeError

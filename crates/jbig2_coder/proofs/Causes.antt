@@ -13,11 +13,11 @@ use Rattle.jbig2_base.specs.declared.error.ParseError.TheVariants.{UnexpectedEof
 use Rattle.jbig2_base.specs.declared.error.HuffmanError.TheVariants.{InvalidCode, UnexpectedOob}
 use Rattle.jbig2_base.specs.inner.BitLists.{AreBits}
 use Rattle.jbig2_base.proofs.BitFieldLemmas.{bits-drop, byte-bits}
-use Rattle.jbig2_coder.specs.Causes.{AreCrowded, Begins, BreaksCode, BreaksNumber, BreaksRange, BreaksSelection, BreaksTable, BreaksValue, LeavesWord}
+use Rattle.jbig2_coder.specs.Causes.{AreCrowded, Begins, BreaksCode, BreaksNumber, BreaksRange, BreaksSelection, BreaksTable, BreaksValue}
 use Rattle.jbig2_coder.specs.PrefixCode.{CodeReading, Member, begins_longer, decoded_value, front_number, in_word, is_crowded, line_of, longest, value_of_line, no_oob, prefix_code, read_code, table_of, value_by, weight, without_oob}
 use Rattle.jbig2_coder.specs.inner.CodeReadings.{cut_off_code, found_or, is_decided, unknown_code, some_value, value_after, with_value}
 use Rattle.jbig2_coder.specs.declared.huffman_table.line.TableLine.{TableLine}
-use Rattle.jbig2_base.specs.Causes.{HasCause, HasCauseOrNoMemory}
+use Rattle.jbig2_base.specs.Causes.{HasCause, HasCauseOrNoMemory, LeavesWord}
 use Rattle.jbig2_base.proofs.CauseSteps.{call-cause, call-cause-or-memory}
 use Rattle.jbig2_coder.specs.Tables.{next_custom}
 

@@ -9,10 +9,10 @@ use Rattle.jbig2_base.specs.declared.error.DecodeError.{DecodeError}
 use Rattle.jbig2_base.specs.declared.error.DecodeError.TheVariants.{OutOfMemory, Parse, Huffman}
 use Rattle.jbig2_base.specs.declared.error.ParseError.TheVariants.{UnexpectedEof}
 use Rattle.jbig2_base.specs.declared.error.HuffmanError.TheVariants.{InvalidCode}
-use Rattle.jbig2_base.specs.Causes.{HasCauseOrNoMemory}
+use Rattle.jbig2_base.specs.Causes.{HasCauseOrNoMemory, LeavesWord}
 use Rattle.jbig2_base.proofs.Causes.{cause-next, same-ok, went}
 use Rattle.jbig2_base.proofs.ReaderLemmas.{bits_on-enough}
-use Rattle.jbig2_coder.specs.Causes.{BreaksCustom, BreaksLines, BreaksSomeLine, LeavesWord}
+use Rattle.jbig2_coder.specs.Causes.{BreaksCustom, BreaksLines, BreaksSomeLine}
 use Rattle.jbig2_coder.specs.CustomTable.{GivesAt, TableStep, concat, custom_header, custom_line, custom_lines, custom_table, end_lines, field, left_at, next_low, range_lines, range_lines_in}
 use Rattle.jbig2_coder.specs.inner.CodeReadings.{last_line}
 use Rattle.jbig2_coder.specs.PrefixCode.{Member, front_number, in_word, table_of}

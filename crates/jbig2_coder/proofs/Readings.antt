@@ -10,9 +10,9 @@ use Rattle.std.proofs.lemmas.Int.{of_z-to_z}
 use mir.Val.{to_z, of_z}
 use mir.Syntax.{w32}
 use Rattle.jbig2_base.specs.Counts.{Counts}
-use Rattle.jbig2_base.specs.Bits.{bit_number}
+use Rattle.jbig2_base.specs.Bits.{bit_number, value_of_bits}
 use Rattle.jbig2_coder.specs.Coder.{Coder, Context, Decision, Registers, decision, fresh}
-use Rattle.jbig2_coder.specs.Integers.{Reading, Range, value_of_bits, next, read, read_more, prev_of, range, ranges, are_next, next_range, signed_number, value_of, integer, Ids, id}
+use Rattle.jbig2_coder.specs.Integers.{Reading, Range, next, read, read_more, prev_of, range, ranges, are_next, next_range, signed_number, value_of, integer, Ids, id}
 use Rattle.jbig2_coder.specs.inner.IntegerPrefixes.{Prefix, prefix, range_of, place_of}
 use Rattle.jbig2_coder.specs.inner.IntegerStates.{HasRead, prev_next}
 

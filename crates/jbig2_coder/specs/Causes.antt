@@ -1,8 +1,9 @@
 -- The rule that the bits break where a read by a prefix code refuses them (docs/FORMAT.md), one line for each error.
 -- `Breaks..` takes a table and the bits, or a table's lines, and an error. The function that refuses cites it.
 use Rattle.std.specs.Prelude.{◌≡◌, ◌<◌, ◌≤◌, ◌⊎◌, ℕ, zero, suc, ◌+◌, ◌-◌, ◌*◌, ◌/◌, ◌^◌, true, false, if◌then◌else◌}
-use Rattle.std.specs.Prelude.{List, [], length, drop, All, Any, Ok, ℤ, pos, negsuc, ◌+ℤ◌, int_lt}
+use Rattle.std.specs.Prelude.{List, [], length, drop, All, Any, Ok, ℤ, pos, ◌+ℤ◌, int_lt}
 use Rattle.jbig2_base.specs.Bits.{Place, bits_left, bits_on, number_after}
+use Rattle.jbig2_base.specs.Causes.{LeavesWord}
 use Rattle.jbig2_base.specs.declared.error.DecodeError.{DecodeError}
 use Rattle.jbig2_base.specs.declared.error.DecodeError.TheVariants.{Parse, Huffman}
 use Rattle.jbig2_base.specs.declared.error.ParseError.TheVariants.{UnexpectedEof}
@@ -32,10 +33,6 @@ BreaksCode ms bits (Parse UnexpectedEof) =
     All (λ m. Begins bits m → ⊥) ms × ((length bits ≡ 0) ⊎ Any (EndWithin bits) ms)
 BreaksCode ms bits (Huffman InvalidCode) = All (λ m. Begins bits m → ⊥) ms × All (λ m. EndWithin bits m → ⊥) ms
 BreaksCode ms bits _ = ⊥
-
-abbrev pub LeavesWord : ℤ → Type 0  -- a number that does not fit signed 32 bits
-LeavesWord (pos n) = 2 ^ 31 ≤ n
-LeavesWord (negsuc n) = 2 ^ 31 ≤ n
 
 -- the bits of a line's range are missing, or the value does not fit signed 32 bits
 abbrev pub BreaksRange : TableLine → List ℕ → DecodeError → Type 0

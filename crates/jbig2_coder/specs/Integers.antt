@@ -10,11 +10,7 @@ use Rattle.jbig2_coder.specs.declared.integer_procedures.IntegerProcedure.{Integ
 use Rattle.jbig2_coder.specs.declared.integer_procedures.IntegerProcedure.TheVariants.{Iaai, Iadh, Iads, Iadt, Iadw}
 use Rattle.jbig2_coder.specs.declared.integer_procedures.IntegerProcedure.TheVariants.{Iaex, Iafs, Iait, Iardh, Iardw}
 use Rattle.jbig2_coder.specs.declared.integer_procedures.IntegerProcedure.TheVariants.{Iardx, Iardy, Iari}
-use Rattle.jbig2_base.specs.Bits.{bit_number}
-
-unfoldable pub value_of_bits : List Bool → ℕ  -- the number that bits make, high bit first
-value_of_bits [] = 0
-value_of_bits (b ∷ bits) = bit_number b * 2 ^ length bits + value_of_bits bits
+use Rattle.jbig2_base.specs.Bits.{value_of_bits}
 
 abbrev pub Reading : Type 0  -- the bits read so far, and the registers and the contexts after them
 Reading = record { bits : List Bool; registers : Registers; contexts : List Context }
@@ -81,6 +77,10 @@ integer bytes registers contexts =
     let sum = (value_of_bits (drop (length before.bits) after.bits) + row.offset) % 2 ^ 32 in
     record { value = value_of (next prev_of bytes start).symbol sum; reading = after }
 
+-- a number, or this error where it is out of band
+abbrev pub in_band : DecodeError → Option ℤ → Result ℤ DecodeError
+in_band e n = some_or e n
+
 -- A symbol id (A.3) has as many bits as the code length says. A bit's context is the number of a 1 and the bits so far.
 abbrev pub Ids : Type 0
 Ids = record { code_len : ℕ; contexts : List Context }
@@ -89,6 +89,10 @@ unfoldable pub id : List ℕ → Registers → Ids → Reading
 id bytes registers ids =
     let start : Reading = record { bits = []; registers = registers; contexts = ids.contexts } in
     read_more (λ bits. value_of_bits (true ∷ bits)) ids.code_len bytes start
+
+-- The most decisions that n numbers take (our own rule, by A.2 and A.3): an integer takes at most 38, an id 30.
+abbrev pub number_steps : ℕ → ℕ
+number_steps n = 38 * n
 
 abbrev pub index_of : IntegerProcedure → ℕ
 index_of Iaai = 0

@@ -2,9 +2,9 @@
 
 ghost use Rattle.std.specs.Prelude.{◌≡◌, ◌+◌, ◌*◌, ◌^◌, ◌<◌, ◌≤◌, Bool, length, drop, replicate, Ok};
 ghost use Rattle.jbig2_base.specs.Results.{Gives};
-ghost use Rattle.jbig2_base.specs.Bits.{bit_number};
+ghost use Rattle.jbig2_base.specs.Bits.{bit_number, value_of_bits};
 ghost use Rattle.jbig2_coder.specs.Coder.{fresh};
-ghost use Rattle.jbig2_coder.specs.Integers.{value_of_bits, next, read, read_more, prev_of, value_of, integer};
+ghost use Rattle.jbig2_coder.specs.Integers.{next, read, read_more, prev_of, value_of, integer};
 ghost use Rattle.jbig2_coder.specs.inner.IntegerPrefixes.{prefix, range_of};
 ghost use Rattle.jbig2_coder.specs.inner.IntegerStates.{ReadsOn, IfRead, prev_next};
 

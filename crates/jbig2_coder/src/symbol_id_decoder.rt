@@ -3,7 +3,8 @@
 ghost use Rattle.std.specs.Prelude.{◌≡◌, ◌+◌, ◌^◌, ◌<◌, ◌≤◌, length, replicate, Ok};
 ghost use Rattle.jbig2_base.specs.Results.{Gives};
 ghost use Rattle.jbig2_coder.specs.Coder.{fresh};
-ghost use Rattle.jbig2_coder.specs.Integers.{Ids, value_of_bits, id};
+ghost use Rattle.jbig2_coder.specs.Integers.{Ids, id};
+ghost use Rattle.jbig2_base.specs.Bits.{value_of_bits};
 
 use crate::arithmetic_decoder::{ArithmeticDecoder, ArithmeticDecoderContext};
 use jbig2_base::error::Result;

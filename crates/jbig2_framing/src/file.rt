@@ -2,112 +2,30 @@
 ghost use Rattle.std.specs.Prelude.{◌≡◌, IfOk, List, length, map, None, Ok, Some};
 ghost use Rattle.jbig2_base.specs.Results.{Gives};
 ghost use Rattle.jbig2_framing.specs.File.{headers_in, with_data, segments_by, file_at, SpelledSegment, SpellsFile};
-ghost use Rattle.jbig2_framing.specs.CutOff.{cut_off_by, data_cut_off, file_cut_off, file_partial, headers_cut_off, partial_by, random_cut_off, sequence_cut_off, sequence_partial};
+ghost use Rattle.jbig2_framing.specs.CutOff.{cut_off_by, data_cut_off, file_cut_off, file_partial, headers_cut_off, partial_by, random_cut_off};
 ghost use Rattle.jbig2_framing.specs.declared.file_header.FileHeader.{FileHeader};
 ghost use Rattle.jbig2_framing.specs.declared.reading.Reading.{Reading};
 ghost use Rattle.jbig2_framing.specs.inner.SegmentViews.{header_views, partial_view, segment_views, file_view};
-ghost use Rattle.jbig2_framing.specs.Sequential.{by_number, is_cut_off, is_end_of_file, sequential};
+ghost use Rattle.jbig2_framing.specs.Sequential.{by_number};
 ghost use Rattle.jbig2_framing.specs.declared.file_header.FileOrganization.TheVariants.{RandomAccess};
 
 pub use crate::cut_off::CutOff;
 use crate::file_header::parse_file_header;
 pub use crate::file_header::{FileHeader, FileOrganization};
 use crate::reading::Reading;
-use crate::segment::{
-    Segment, SegmentHeader, SegmentType, parse_segment, parse_segment_data, parse_segment_header,
-    partial_segment,
-};
+use crate::segment::{Segment, SegmentHeader, parse_segment_data, parse_segment_header};
+use crate::segment_list::is_end_of_file;
+pub use crate::segment_list::{SegmentList, parse_segments_sequential};
 use crate::sort::sort_segments;
-use jbig2_base::error::{DecodeError, Result};
+use jbig2_base::error::Result;
 use jbig2_base::reader::Reader;
 use std::alloc::Allocator;
-
-/// Whether the segments end before one that is refused with this error. Lenient reading drops a
-/// segment that is cut off.
-fn is_cut_off(reading: Reading, error: &DecodeError) -> bool
-    ensures { result ≡ is_cut_off reading error.now }
-{
-    match (reading, error) {
-        (Reading::Lenient, DecodeError::Parse(_)) => true,
-        _ => reading.is_salvaged(error),
-    }
-}
-
-fn is_end_of_file(kind: SegmentType) -> bool
-    ensures { result ≡ is_end_of_file kind }
-{
-    matches!(kind, SegmentType::EndOfFile)
-}
-
-/// Segments in the order of the bytes, and where their list ends early.
-#[derive(Debug, Drop)]
-pub struct SegmentList<'a, A: Allocator> {
-    pub segments: Vec<Segment<'a, A>, A>,
-    /// The segment at which the list ends early, if it does.
-    pub cut_off: Option<CutOff>,
-    /// What is there of that segment, with all bytes after its header. None in random access, and where
-    /// its header is refused or leaves the data length open.
-    pub partial: Option<Segment<'a, A>>,
-}
 
 /// Segment headers in the order of the bytes, and where their list ends early.
 #[derive(Drop)]
 struct HeaderList<A: Allocator> {
     headers: Vec<SegmentHeader<A>, A>,
     cut_off: Option<CutOff>,
-}
-
-/// The segments in the bytes, each header with its data after it, up to an end of file segment or
-/// the end of the bytes (T.88, D.1 and D.3).
-///
-/// Lenient reading drops a segment that is cut off, and ends there. Salvage ends before any segment
-/// that is refused. Every other error is returned.
-pub fn parse_segments_sequential<'a, A: Allocator + Clone>(
-    alloc: A,
-    bytes: &'a [u8],
-    reading: Reading,
-) -> Result<SegmentList<'a, A>>
-    ensures value { Gives (λ list. segment_views list.segments.items) result
-        (sequential reading bytes.now) }
-    ensures cut_off { IfOk result (λ list. list.cut_off ≡ sequence_cut_off reading bytes.now) }
-    ensures partial { IfOk result
-        (λ list. partial_view list.partial ≡ sequence_partial reading bytes.now) }
-{
-    let mut reader = Reader::new(bytes);
-    let mut segments = Vec::new(alloc.clone()?);
-    let strict = reading.is_strict();
-    while !reader.at_end() {
-        match parse_segment(alloc.clone()?, &mut reader, strict) {
-            Ok(segment) => {
-                let last = is_end_of_file(segment.header.segment_type);
-                segments.push(segment)?;
-                if last {
-                    return Ok(SegmentList {
-                        segments,
-                        cut_off: None,
-                        partial: None,
-                    });
-                }
-            }
-            Err(error) => {
-                if is_cut_off(reading, &error) {
-                    let cut_off = CutOff::at(alloc.clone()?, &reader, strict, error)?;
-                    let partial = partial_segment(alloc, &reader, strict)?;
-                    return Ok(SegmentList {
-                        segments,
-                        cut_off: Some(cut_off),
-                        partial,
-                    });
-                }
-                return Err(error);
-            }
-        }
-    }
-    Ok(SegmentList {
-        segments,
-        cut_off: None,
-        partial: None,
-    })
 }
 
 /// All segment headers from the reader's place on, up to that of an end of file segment or the end

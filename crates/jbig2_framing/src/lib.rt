@@ -7,4 +7,5 @@ pub mod file_header;
 pub mod page_info;
 pub mod reading;
 pub mod segment;
+pub mod segment_list;
 pub mod sort;

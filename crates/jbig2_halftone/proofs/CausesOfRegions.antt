@@ -13,8 +13,8 @@ use Rattle.jbig2_base.specs.declared.error.RegionError.TheVariants.{GrayScaleOut
 use Rattle.jbig2_base.proofs.Causes.{cause-next}
 use Rattle.jbig2_mmr.specs.T6.{DecodedRows, mmr_rows, rows_of}
 use Rattle.jbig2_region.specs.Generic.{generic_result}
-use Rattle.jbig2_halftone.specs.Causes.{BreaksGrayScale, BreaksHalftone, BreaksPatterns, plane_start}
-use Rattle.jbig2_halftone.specs.GrayScale.{GrayScale, gray_scale_image, gray_value, gray_values, image_is_too_large, mmr_plane, mmr_planes, planes_of}
+use Rattle.jbig2_halftone.specs.Causes.{BreaksGrayScale, BreaksHalftone, BreaksPatterns}
+use Rattle.jbig2_halftone.specs.GrayScale.{GrayScale, gray_scale_image, gray_value, gray_values, image_is_too_large, mmr_plane, mmr_planes, planes_of, mmr_left}
 use Rattle.jbig2_halftone.specs.Halftone.{cells_drawn, gray_params, halftone_result, pattern_for, with_cell}
 use Rattle.jbig2_halftone.specs.HalftoneHeader.{HalftoneHeader}
 use Rattle.jbig2_halftone.specs.Patterns.{Patterns, collective_header, collective_width, patterns_decoded}
@@ -32,7 +32,7 @@ abbrev LacksRows : Bool → ℕ → ℕ → List ℕ → Type 0
 LacksRows strict w h bytes = BreaksMmr strict w h bytes (Region InvalidMmrData)
 
 abbrev APlaneLacksRows : GrayScale → List ℕ → Type 0
-APlaneLacksRows p bytes = (k : ℕ) × (k < p.bits_per_pixel) × LacksRows p.strict p.width p.height (plane_start p bytes k)
+APlaneLacksRows p bytes = (k : ℕ) × (k < p.bits_per_pixel) × LacksRows p.strict p.width p.height (mmr_left p bytes k)
 
 -- how many bytes the rows used: the last counts whole, if only some of its bits are used
 used : ℕ → ℕ → List ℕ → ℕ
@@ -63,13 +63,13 @@ pattern_cause h r = call-cause-or-memory (BreaksPatterns h) (patterns_decoded h)
 
 -- ---- planes
 -- planes from plane k on
-cause-planes : (P : DecodeError → Type 0) (p : GrayScale) (bytes : List ℕ) (k : ℕ) (rest : List ℕ) (count : ℕ) → plane_start p bytes k ≡ rest
-    → ((j : ℕ) → j < k + count → LacksRows p.strict p.width p.height (plane_start p bytes j) → P (Region InvalidMmrData)) → IfErr (mmr_planes p rest count) P
-unfolding mmr_planes mmr_plane plane_start used
+cause-planes : (P : DecodeError → Type 0) (p : GrayScale) (bytes : List ℕ) (k : ℕ) (rest : List ℕ) (count : ℕ) → mmr_left p bytes k ≡ rest
+    → ((j : ℕ) → j < k + count → LacksRows p.strict p.width p.height (mmr_left p bytes j) → P (Region InvalidMmrData)) → IfErr (mmr_planes p rest count) P
+unfolding mmr_planes mmr_plane mmr_left used
 cause-planes P p bytes k rest zero at why = tt
 cause-planes P p bytes k rest (suc count) at why =
-    let Q : Grid × List ℕ → Type 0 = λ x. plane_start p bytes (suc k) ≡ x.1 in
-    let lacks : LacksRows p.strict p.width p.height rest → LacksRows p.strict p.width p.height (plane_start p bytes k) = λ is. subst (λ (l : List ℕ). LacksRows p.strict p.width p.height l) (sym at) is in
+    let Q : Grid × List ℕ → Type 0 = λ x. mmr_left p bytes (suc k) ≡ x.1 in
+    let lacks : LacksRows p.strict p.width p.height rest → LacksRows p.strict p.width p.height (mmr_left p bytes k) = λ is. subst (λ (l : List ℕ). LacksRows p.strict p.width p.height l) (sym at) is in
     cause-last P Q (mmr_plane p rest) _
     (result-next P _ Q (mmr_rows p.strict p.width p.height rest) _ (result-mmr P p.strict p.width p.height rest (λ is. why k (omega arith) (lacks is)))
     (λ rows taken. ap (λ (l : List ℕ). drop (used p.width p.height l) l) at ∙ ap (λ (n : ℕ). drop n rest) taken)) (λ plane next.
@@ -82,7 +82,7 @@ too-large p is =
 
 cause-coded : (P : DecodeError → Type 0) (p : GrayScale) (bytes : List ℕ) → (p.use_mmr ≡ true → APlaneLacksRows p bytes → P (Region InvalidMmrData))
     → IfErr (planes_of p bytes) P
-unfolding plane_start
+unfolding mmr_left
 cause-coded P p bytes why =
     cause-if P p.use_mmr (planes_by_mmr p bytes) (planes_by_coder p bytes)
     (λ mmr. cause-planes P p bytes 0 bytes p.bits_per_pixel refl (λ j below lacks. why mmr (j, omega (arith, below), lacks))) (λ coded. tt)

@@ -7,8 +7,7 @@ use Rattle.std.proofs.lemmas.List.FromFn.{length-map-range_with_len}
 use Rattle.jbig2_region.proofs.ContextLemmas.{number_of-lt}
 use Rattle.jbig2_halftone.specs.inner.NextValues.{next_value}
 use Rattle.jbig2_base.specs.Grid.{Grid, pixel_at, differ}
-use Rattle.jbig2_base.specs.Bits.{bit_number}
-use Rattle.jbig2_region.specs.Generic.{number_of}
+use Rattle.jbig2_base.specs.Bits.{bit_number, number_of}
 use Rattle.jbig2_halftone.specs.GrayScale.{parity, gray_value, gray_values}
 
 -- bit j of a value

@@ -8,7 +8,7 @@ use Rattle.jbig2_base.specs.Grid.{Grid, blank, blank_or_overflow}
 use Rattle.jbig2_base.specs.declared.error.DecodeError.{DecodeError}
 use Rattle.jbig2_base.proofs.CountLemmas.{written-none}
 use Rattle.jbig2_base.proofs.FillLemmas.{white-made}
-use Rattle.jbig2_base.proofs.LaneCounts.{lanes-none, lanes-then}
+use Rattle.jbig2_steps.proofs.LaneCounts.{lanes-none, lanes-then}
 use Rattle.jbig2_region.specs.GenericSteps.{CountsGeneric}
 use Rattle.jbig2_region.specs.Templates.{left, nominal_adaptive_pixels}
 use Rattle.jbig2_region.specs.inner.PixelArrays.{pixels_view}

@@ -17,9 +17,9 @@ use Rattle.jbig2_region.specs.WholeRows.{after_row, whole_rows}
 use Rattle.jbig2_region.specs.declared.template.AdaptiveTemplatePixel.{AdaptiveTemplatePixel}
 use Rattle.jbig2_region.specs.declared.template.Template.{Template}
 use Rattle.jbig2_region.specs.declared.template.Template.TheVariants.{Template0, Template1, Template2, Template3}
-use Rattle.jbig2_halftone.specs.GrayScale.{GrayScale, after_planes, gray_contexts, gray_scale_image, image_is_too_large, mmr_plane}
+use Rattle.jbig2_halftone.specs.GrayScale.{GrayScale, after_planes, gray_contexts, gray_scale_image, image_is_too_large, mmr_plane, mmr_left}
 use Rattle.jbig2_halftone.specs.HalftoneHeader.{HalftoneHeader}
-use Rattle.jbig2_halftone.specs.WholeCells.{mmr_left, whole_image_rows}
+use Rattle.jbig2_halftone.specs.WholeCells.{whole_image_rows}
 use Rattle.jbig2_halftone.specs.inner.FunctionResults.{whole_coded_rows, mmr_rows_left, plane_coding, coded_plane_start}
 use Rattle.jbig2_halftone.proofs.HalftoneLemmas.{plane-lenient, values-sized}
 use Rattle.jbig2_halftone.proofs.PlaneLemmas.{AfterPlanes}

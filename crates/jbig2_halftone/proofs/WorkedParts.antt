@@ -9,11 +9,11 @@ use Rattle.jbig2_base.specs.declared.error.DecodeError.{DecodeError}
 use Rattle.jbig2_mmr.specs.T6.{read_code, run_from, is_change, is_change_from, b1_of, b2_of, after_pass, after_runs, after_vertical, next_step, row_from, black_at, ends_block, rows_from, rows_of, mmr_rows}
 use Rattle.jbig2_mmr.specs.T6Codes.{modes, longer_runs, white_runs, black_runs}
 use Rattle.jbig2_region.specs.RegionInfo.{PlacedRegion, region_info_at}
-use Rattle.jbig2_halftone.specs.GrayScale.{mmr_plane, mmr_planes, gray_value, gray_values, gray_scale_image}
+use Rattle.jbig2_halftone.specs.GrayScale.{mmr_plane, mmr_planes, gray_value, gray_values, gray_scale_image, mmr_left}
 use Rattle.jbig2_halftone.specs.Halftone.{cells_drawn, gray_params}
 use Rattle.jbig2_halftone.specs.HalftoneHeader.{halftone_flags_at, halftone_grid_at, halftone_header_at}
 use Rattle.jbig2_halftone.specs.Patterns.{Patterns}
-use Rattle.jbig2_halftone.specs.WholeCells.{halftone_part, mmr_left, whole_image_rows}
+use Rattle.jbig2_halftone.specs.WholeCells.{halftone_part, whole_image_rows}
 
 -- bitmaps of one pixel: two white patterns, then two black ones
 abbrev dot : Bool → Grid

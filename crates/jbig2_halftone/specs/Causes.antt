@@ -1,7 +1,7 @@
 -- Which rule the input breaks where patterns or a halftone region are refused (docs/FORMAT.md), one line for each
 -- error. `Breaks..` takes the bytes of a segment, or its header and what it refers to, and an error. The function that
 -- refuses cites it.
-use Rattle.std.specs.Prelude.{◌≡◌, ◌<◌, ◌≤◌, ◌⊎◌, ℕ, zero, suc, ◌+◌, ◌-◌, ◌*◌, ◌/◌, ◌%◌, true, List, length, drop, Ok}
+use Rattle.std.specs.Prelude.{◌≡◌, ◌<◌, ◌≤◌, ◌⊎◌, ℕ, ◌+◌, ◌*◌, ◌/◌, ◌%◌, true, List, length, Ok}
 use Rattle.std.specs.Int.{w8, w32}
 use Rattle.jbig2_base.specs.Causes.{number_in}
 use Rattle.jbig2_base.specs.Grid.{Grid, max_side}
@@ -12,8 +12,7 @@ use Rattle.jbig2_base.specs.declared.error.ParseError.TheVariants.{UnexpectedEof
 use Rattle.jbig2_base.specs.declared.error.RegionError.TheVariants.{GrayScaleOutOfRange, InvalidCombinationOperator}
 use Rattle.jbig2_base.specs.declared.error.RegionError.TheVariants.{InvalidMmrData}
 use Rattle.jbig2_mmr.specs.Causes.{BreaksMmr}
-use Rattle.jbig2_mmr.specs.T6.{rows_of}
-use Rattle.jbig2_halftone.specs.GrayScale.{GrayScale, gray_value, planes_of}
+use Rattle.jbig2_halftone.specs.GrayScale.{GrayScale, gray_value, mmr_left, planes_of}
 use Rattle.jbig2_halftone.specs.Halftone.{gray_params}
 use Rattle.jbig2_halftone.specs.HalftoneHeader.{HalftoneHeader}
 use Rattle.jbig2_halftone.specs.PatternHeader.{PatternHeader}
@@ -44,19 +43,12 @@ BreaksPatterns h (Region InvalidMmrData) =
     × BreaksMmr h.strict ((h.gray_max + 1) * h.pattern_width) h.pattern_height h.bytes (Region InvalidMmrData)
 BreaksPatterns h _ = ⊥
 
--- where plane k of MMR data begins: after the whole bytes that each plane before it used
-unfoldable pub plane_start : GrayScale → List ℕ → ℕ → List ℕ
-plane_start p bytes zero = bytes
-plane_start p bytes (suc k) =
-    let here = plane_start p bytes k in
-    drop (length here - length (rows_of p.width p.height here).left / 8) here
-
 -- The image has planes, and a side above 65535. Or, in strict mode, the MMR data of a plane breaks a rule of T.6.
 abbrev pub BreaksGrayScale : GrayScale → List ℕ → DecodeError → Type 0
 BreaksGrayScale p bytes (Overflow BitmapDimension) = (0 < p.bits_per_pixel) × ((max_side < p.width) ⊎ (max_side < p.height))
 BreaksGrayScale p bytes (Region InvalidMmrData) =
     (p.use_mmr ≡ true) × ((k : ℕ) × (k < p.bits_per_pixel)
-    × BreaksMmr p.strict p.width p.height (plane_start p bytes k) (Region InvalidMmrData))
+    × BreaksMmr p.strict p.width p.height (mmr_left p bytes k) (Region InvalidMmrData))
 BreaksGrayScale p bytes _ = ⊥
 
 -- The image of gray values is refused. Or, in strict mode, the planes give a cell a value that has no pattern.

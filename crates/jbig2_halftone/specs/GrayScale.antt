@@ -8,9 +8,10 @@ use Rattle.jbig2_base.specs.Grid.{Grid, pixel_at, differ, max_side}
 use Rattle.jbig2_base.specs.declared.error.DecodeError.{DecodeError}
 use Rattle.jbig2_base.specs.declared.error.DecodeError.TheVariants.{Overflow}
 use Rattle.jbig2_base.specs.declared.error.OverflowError.TheVariants.{BitmapDimension}
-use Rattle.jbig2_mmr.specs.T6.{mmr_rows}
+use Rattle.jbig2_mmr.specs.T6.{mmr_rows, rows_of}
 use Rattle.jbig2_coder.specs.Coder.{Context, initial_registers}
-use Rattle.jbig2_region.specs.Generic.{number_of, skipping_coding}
+use Rattle.jbig2_region.specs.Generic.{skipping_coding}
+use Rattle.jbig2_base.specs.Bits.{number_of}
 use Rattle.jbig2_region.specs.Raster.{Region, so_far, decoded_region, no_pixels}
 use Rattle.jbig2_coder.specs.Coder.{fresh_contexts}
 use Rattle.jbig2_region.specs.Templates.{context_bits, nominal_adaptive_pixels, template_pixels}
@@ -45,6 +46,14 @@ module _ (p : GrayScale) where
     (plane, rest) ← mmr_plane bytes
     others ← mmr_planes rest count
     Ok (plane ∷ others)
+
+  -- The bytes of MMR data that are left after this many of the highest planes. Each plane uses whole bytes. Read
+  -- leniently, no plane is refused.
+  unfoldable pub mmr_left : List ℕ → ℕ → List ℕ
+  mmr_left bytes zero = bytes
+  mmr_left bytes (suc count) =
+      let before = mmr_left bytes count in
+      drop (length before - length (rows_of p.width p.height before).left / 8) before
 
   -- all planes, the highest first; with the arithmetic coder, plane k is the last of the k + 1 highest ones
   abbrev pub planes_of : List ℕ → Result (List Grid) DecodeError

@@ -1,6 +1,6 @@
 -- The data of a halftone region segment up to its coded bytes (T.88, 7.4.5): region information, flags, and the grid's
 -- size, place and vector. The bytes give the header, and the coded bytes after it.
-use Rattle.std.specs.Prelude.{ℕ, ◌/◌, ◌%◌, ◌==◌, nat_lt, Bool, ◌||◌, List, Result, Ok}
+use Rattle.std.specs.Prelude.{ℕ, ◌/◌, ◌%◌, ◌≤◌, ◌==◌, nat_lt, Bool, ◌||◌, List, Result, Ok}
 use Rattle.std.specs.Int.{w8, w16, w32}
 use Rattle.jbig2_base.specs.Grid.{max_side}
 use Rattle.jbig2_base.specs.Results.{refuse_if, ◌>>=◌}
@@ -68,3 +68,8 @@ halftone_header_at strict bytes = do
     },
     rest,
   )
+
+-- the limits of the grid of a header that was parsed
+pub record HasCells (header : HalftoneHeader) : Type 0 where
+  pub columns : header.grid_position_and_size.width ≤ max_side
+  pub rows : header.grid_position_and_size.height ≤ max_side

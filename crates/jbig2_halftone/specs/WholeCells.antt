@@ -1,6 +1,6 @@
 -- What is drawn of a halftone region whose data is cut off (our own rule): the cells of the whole rows of its grid. The
 -- planes of the cells' values are coded one after the other, so a row is whole if it is whole in the last plane.
-use Rattle.std.specs.Prelude.{ℕ, zero, suc, ◌-◌, ◌*◌, ◌/◌, ◌==◌, ◌||◌, false, if◌then◌else◌, List, length, take, drop}
+use Rattle.std.specs.Prelude.{ℕ, ◌-◌, ◌*◌, ◌==◌, ◌||◌, false, if◌then◌else◌, List, length, take}
 use Rattle.std.specs.Prelude.{Result, Ok}
 use Rattle.jbig2_base.specs.Results.{◌>>=◌}
 use Rattle.jbig2_base.specs.Grid.{blank, check_sides}
@@ -11,19 +11,12 @@ use Rattle.jbig2_region.specs.Raster.{no_pixels, source}
 use Rattle.jbig2_region.specs.RegionInfo.{PlacedRegion, at_location}
 use Rattle.jbig2_region.specs.Templates.{nominal_adaptive_pixels, template_pixels}
 use Rattle.jbig2_region.specs.WholeRows.{whole_rows}
-use Rattle.jbig2_halftone.specs.GrayScale.{GrayScale, after_planes, gray_scale_image}
+use Rattle.jbig2_halftone.specs.GrayScale.{GrayScale, after_planes, gray_scale_image, mmr_left}
 use Rattle.jbig2_halftone.specs.Halftone.{cells_drawn, gray_params}
 use Rattle.jbig2_halftone.specs.HalftoneHeader.{HalftoneHeader}
 use Rattle.jbig2_halftone.specs.Patterns.{Patterns}
 
 module _ (p : GrayScale) where
-  -- The bytes of MMR data that are left after this many of the highest planes, read leniently: as `mmr_plane` gives them.
-  unfoldable pub mmr_left : List ℕ → ℕ → List ℕ
-  mmr_left bytes zero = bytes
-  mmr_left bytes (suc count) =
-      let before = mmr_left bytes count in
-      drop (length before - length (rows_of p.width p.height before).left / 8) before
-
   -- How many rows of a gray-scale image are whole: those of its last plane (our own rule). An image without planes or
   -- without columns has all its rows.
   abbrev pub whole_image_rows : List ℕ → ℕ

@@ -23,7 +23,8 @@ use Rattle.jbig2_region.specs.declared.template.Template.TheVariants.{Template0,
 use Rattle.jbig2_region.specs.RegionInfo.{region_info_at}
 use Rattle.jbig2_region.specs.GenericHeader.{GenericHeader, rows_at, generic_header_at}
 use Rattle.jbig2_region.specs.Templates.{adaptive_pixel_count, adaptive_pixel_at, adaptive_pixels_at, is_earlier, takes_extended, template_of}
-use Rattle.jbig2_inverses.specs.GenericSegmentWriter.{operator_number, template_number, info_bytes, generic_flags, signed_byte, adaptive_bytes, generic_bytes, IsSignedByte, AreAdaptive, IsHeader, GenericSegmentsReadBack}
+use Rattle.jbig2_inverses.specs.GenericSegmentWriter.{template_number, info_bytes, generic_flags, signed_byte, adaptive_bytes, generic_bytes, IsSignedByte, AreAdaptive, IsHeader, GenericSegmentsReadBack}
+use Rattle.jbig2_inverses.specs.SegmentWriter.{operator_number}
 
 -- ---- numbers
 abbrev pub Numbered : Type 0

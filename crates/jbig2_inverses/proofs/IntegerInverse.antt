@@ -4,7 +4,8 @@ use Rattle.std.proofs.lemmas.Bool.{cond-true, cond-false}
 use Rattle.std.proofs.lemmas.List.{drop_at}
 use Rattle.jbig2_coder.specs.Coder.{Context, Registers}
 use Rattle.jbig2_coder.specs.Encoder.{encoded_bytes}
-use Rattle.jbig2_coder.specs.Integers.{Reading, Range, ranges, next, read, read_more, next_range, prev_of, value_of_bits, signed_number, value_of, integer, Ids, id}
+use Rattle.jbig2_coder.specs.Integers.{Reading, Range, ranges, next, read, read_more, next_range, prev_of, signed_number, value_of, integer, Ids, id}
+use Rattle.jbig2_base.specs.Bits.{value_of_bits}
 use Rattle.jbig2_inverses.specs.CoderStates.{Entry, asked, State, state_on, state_after, initial_state, GivesDecisions, window}
 use Rattle.jbig2_inverses.specs.IntegerWriter.{binary, size_decisions, integer_decisions, in_contexts, integer_entries, id_entries, IsWord, ReadsInteger, ReadsId, IntegersReadBack, SymbolIdsReadBack}
 use Rattle.jbig2_inverses.proofs.CoderStates.{reading_at, next-gives, read-gives, more-gives, contexts-append, gives-next, gives-before, gives-after, after-next, after-append, gives-amid}

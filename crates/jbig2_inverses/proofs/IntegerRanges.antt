@@ -1,13 +1,13 @@
 -- The row of Table A.1 in which a size lies is the one that its prefix selects.
 use Rattle.std.proofs.Common.{◌≡◌, ℕ, zero, suc, ◌+◌, ◌-◌, ◌*◌, ◌/◌, ◌%◌, ◌^◌, ◌<◌, ◌≤◌, eqb, ltb, Bool, true, false, not, ◌&&◌, List, [], ◌∷◌, ◌++◌, length, drop, Option, Some, None, refl, sym, ◌∙◌, ap, subst, arith, ⊎_elim, lt-ltb, le-ltb, mod-eq_of_lt, pow-suc, pow_mono, length-drop}
 use Rattle.std.proofs.lemmas.Bool.{cond-true, cond-false, cases_lt, and_left}
-use Rattle.jbig2_coder.specs.Integers.{Reading, Range, range, ranges, next, read, are_next, next_range, prev_of, value_of_bits}
+use Rattle.jbig2_coder.specs.Integers.{Reading, Range, range, ranges, next, read, are_next, next_range, prev_of}
 use Rattle.jbig2_inverses.specs.Digits.{digits}
 use Rattle.jbig2_inverses.specs.CoderStates.{State, state_on, GivesDecisions}
 use Rattle.jbig2_inverses.specs.IntegerWriter.{binary, range_of, in_contexts}
 use Rattle.jbig2_inverses.proofs.Digits.{top-digit}
 use Rattle.jbig2_inverses.proofs.CoderStates.{reading_at, next-gives, read-gives, gives-next}
-use Rattle.jbig2_base.specs.Bits.{bit_number}
+use Rattle.jbig2_base.specs.Bits.{bit_number, value_of_bits}
 
 pub length-binary : (k n : ℕ) → length (binary k n) ≡ k
 unfolding digits

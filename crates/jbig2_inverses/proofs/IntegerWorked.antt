@@ -1,6 +1,7 @@
 -- Short integers and symbol ids, written by the definition.
 use Rattle.std.proofs.Common.{◌≡◌, true, false, [], ◌∷◌, pos, negsuc, Some, None, refl}
-use Rattle.jbig2_coder.specs.Integers.{ranges, value_of_bits}
+use Rattle.jbig2_coder.specs.Integers.{ranges}
+use Rattle.jbig2_base.specs.Bits.{value_of_bits}
 use Rattle.jbig2_inverses.specs.Digits.{digits}
 use Rattle.jbig2_inverses.specs.IntegerWriter.{range_of, integer_decisions, in_contexts, integer_entries, id_entries}
 

@@ -24,8 +24,7 @@ use Rattle.jbig2_framing.specs.declared.page_info.PageStriping.{PageStriping}
 use Rattle.jbig2_framing.specs.declared.reading.Reading.{Reading}
 use Rattle.jbig2_framing.specs.declared.segment.SegmentType.{SegmentType}
 use Rattle.jbig2_framing.specs.declared.segment.SegmentType.TheVariants as types
-use Rattle.jbig2_inverses.specs.GenericSegmentWriter.{operator_number}
-use Rattle.jbig2_inverses.specs.SegmentWriter.{type_number, header_flags, segment_bytes, IsSegment, AreSegments, SegmentsReadBack, number_or_0, page_flags, striping_number, information_bytes, IsResolution, PageInformationReadsBack}
+use Rattle.jbig2_inverses.specs.SegmentWriter.{type_number, header_flags, segment_bytes, IsSegment, AreSegments, SegmentsReadBack, number_or_0, page_flags, striping_number, information_bytes, IsResolution, PageInformationReadsBack, operator_number}
 use Rattle.jbig2_inverses.proofs.GenericSegmentInverse.{Numbered, four-bytes, one-byte, bit-back, bit-small}
 
 -- ---- segment headers

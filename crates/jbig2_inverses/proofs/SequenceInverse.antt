@@ -8,7 +8,8 @@ use Rattle.jbig2_coder.specs.declared.integer_procedures.IntegerProcedure.{Integ
 use Rattle.jbig2_coder.specs.declared.integer_procedures.IntegerProcedure.TheVariants.{Iaai, Iadh, Iads, Iadt, Iadw, Iaex, Iafs, Iait, Iardh, Iardw, Iardx, Iardy, Iari}
 use Rattle.jbig2_coder.specs.Coder.{Context, Coder, fresh, decision}
 use Rattle.jbig2_coder.specs.Encoder.{encoded_bytes, with_context}
-use Rattle.jbig2_coder.specs.Integers.{Reading, Procedures, index_of, integer, integer_by, prev_of, value_of_bits}
+use Rattle.jbig2_coder.specs.Integers.{Reading, Procedures, index_of, integer, integer_by, prev_of}
+use Rattle.jbig2_base.specs.Bits.{value_of_bits}
 use Rattle.jbig2_inverses.specs.CoderStates.{asked, State, state_on, state_after, initial_state, GivesDecisions, window}
 use Rattle.jbig2_inverses.specs.IntegerWriter.{in_contexts, integer_decisions, integer_entries, id_entries, binary, IsWord}
 use Rattle.jbig2_inverses.specs.SequenceWriter.{Integer, Id, Item, IntegerOf, IdOf, asked_of, Readers, entries_of, IsWritable, read_item, read_items, SequencesReadBack}

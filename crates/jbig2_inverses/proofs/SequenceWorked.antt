@@ -2,7 +2,8 @@
 use Rattle.std.proofs.Common.{◌≡◌, true, false, [], ◌∷◌, pos, Some, refl}
 use Rattle.std.specs.List.{flat_map}
 use Rattle.jbig2_coder.specs.declared.integer_procedures.IntegerProcedure.TheVariants.{Iadh}
-use Rattle.jbig2_coder.specs.Integers.{ranges, value_of_bits}
+use Rattle.jbig2_coder.specs.Integers.{ranges}
+use Rattle.jbig2_base.specs.Bits.{value_of_bits}
 use Rattle.jbig2_inverses.specs.Digits.{digits}
 use Rattle.jbig2_inverses.specs.IntegerWriter.{range_of, integer_decisions, in_contexts}
 use Rattle.jbig2_inverses.specs.SequenceWriter.{IntegerOf, IdOf, entries_of}

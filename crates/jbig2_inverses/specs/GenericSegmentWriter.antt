@@ -6,21 +6,13 @@ use Rattle.std.specs.List.{flat_map}
 use Rattle.std.specs.Int.{w32, to_be_bytes}
 use Rattle.jbig2_base.specs.Grid.{max_side}
 use Rattle.jbig2_base.specs.Bits.{bit_number}
-use Rattle.jbig2_base.specs.declared.bitmap.operator.CombinationOperator.{CombinationOperator}
-use Rattle.jbig2_base.specs.declared.bitmap.operator.CombinationOperator.TheVariants.{Or, And, Xor, Xnor, Replace}
 use Rattle.jbig2_region.specs.declared.region_info.RegionSegmentInfo.{RegionSegmentInfo}
 use Rattle.jbig2_region.specs.declared.template.AdaptiveTemplatePixel.{AdaptiveTemplatePixel}
 use Rattle.jbig2_region.specs.declared.template.Template.{Template}
 use Rattle.jbig2_region.specs.declared.template.Template.TheVariants.{Template0, Template1, Template2, Template3}
 use Rattle.jbig2_region.specs.GenericHeader.{GenericHeader, generic_header_at}
 use Rattle.jbig2_region.specs.Templates.{adaptive_pixel_count, is_earlier, takes_extended}
-
-abbrev pub operator_number : CombinationOperator → ℕ  -- 7.4.1.5
-operator_number Or = 0
-operator_number And = 1
-operator_number Xor = 2
-operator_number Xnor = 3
-operator_number Replace = 4
+use Rattle.jbig2_inverses.specs.SegmentWriter.{operator_number}
 
 abbrev pub template_number : Template → ℕ  -- GBTEMPLATE
 template_number Template0 = 0

@@ -2,7 +2,8 @@
 -- number of its context. Then the laws that the readings of `Integers` give back what was written.
 use Rattle.std.specs.Prelude.{◌≡◌, ℕ, ◌+◌, ◌-◌, ◌^◌, ◌<◌, nat_lt, ◌==◌, Bool, true, false, if◌then◌else◌}
 use Rattle.std.specs.Prelude.{List, [], ◌∷◌, ◌++◌, map, Option, Some, None, ℤ, pos, negsuc, ⊤}
-use Rattle.jbig2_coder.specs.Integers.{Range, range, ranges, prev_of, value_of_bits, integer, id}
+use Rattle.jbig2_coder.specs.Integers.{Range, range, ranges, prev_of, integer, id}
+use Rattle.jbig2_base.specs.Bits.{value_of_bits}
 use Rattle.jbig2_coder.specs.Encoder.{encoded_bytes}
 use Rattle.jbig2_inverses.specs.Digits.{digits}
 use Rattle.jbig2_inverses.specs.CoderStates.{Entry, State, GivesDecisions, asked, initial_state, state_after, window}

@@ -8,14 +8,14 @@ use Rattle.jbig2_framing.specs.PageInfo.{information_at}
 use Rattle.jbig2_framing.specs.Reading.{is_strict}
 use Rattle.jbig2_framing.specs.Segment.{Header, SegmentView, is_reserved}
 use Rattle.jbig2_framing.specs.Sequential.{is_end_of_file, sequential}
-use Rattle.jbig2_base.specs.declared.bitmap.operator.CombinationOperator.TheVariants.{Replace}
+use Rattle.jbig2_base.specs.declared.bitmap.operator.CombinationOperator.{CombinationOperator}
+use Rattle.jbig2_base.specs.declared.bitmap.operator.CombinationOperator.TheVariants.{Or, And, Xor, Xnor, Replace}
 use Rattle.jbig2_framing.specs.declared.page_info.PageFlags.{PageFlags}
 use Rattle.jbig2_framing.specs.declared.page_info.PageInformation.{PageInformation}
 use Rattle.jbig2_framing.specs.declared.page_info.PageStriping.{PageStriping}
 use Rattle.jbig2_framing.specs.declared.reading.Reading.{Reading}
 use Rattle.jbig2_framing.specs.declared.segment.SegmentType.{SegmentType}
 use Rattle.jbig2_framing.specs.declared.segment.SegmentType.TheVariants as types
-use Rattle.jbig2_inverses.specs.GenericSegmentWriter.{operator_number}
 use Rattle.jbig2_base.specs.Bits.{bit_number}
 
 abbrev pub type_number : SegmentType → ℕ  -- 7.3; one of the numbers that have no meaning
@@ -77,6 +77,13 @@ SegmentsReadBack = (reading : Reading) (ps : List SegmentView) → AreSegments (
 abbrev pub number_or_0 : Option ℕ → ℕ  -- an unknown resolution is 0
 number_or_0 None = 0
 number_or_0 (Some n) = n
+
+abbrev pub operator_number : CombinationOperator → ℕ  -- 7.4.1.5
+operator_number Or = 0
+operator_number And = 1
+operator_number Xor = 2
+operator_number Xnor = 3
+operator_number Replace = 4
 
 abbrev pub page_flags : PageFlags → ℕ  -- 7.4.8.5
 page_flags f =

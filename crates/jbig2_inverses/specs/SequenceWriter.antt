@@ -5,7 +5,8 @@ use Rattle.std.specs.List.{flat_map}
 use Rattle.jbig2_coder.specs.declared.integer_procedures.IntegerProcedure.{IntegerProcedure}
 use Rattle.jbig2_coder.specs.Coder.{Context, Coder, fresh, initial_registers}
 use Rattle.jbig2_coder.specs.Encoder.{encoded_bytes}
-use Rattle.jbig2_coder.specs.Integers.{Procedures, fresh_procedures, index_of, integer_by, id, value_of_bits}
+use Rattle.jbig2_coder.specs.Integers.{Procedures, fresh_procedures, index_of, integer_by, id}
+use Rattle.jbig2_base.specs.Bits.{value_of_bits}
 use Rattle.jbig2_inverses.specs.CoderStates.{Entry}
 use Rattle.jbig2_inverses.specs.IntegerWriter.{integer_entries, id_entries, IsWord}
 

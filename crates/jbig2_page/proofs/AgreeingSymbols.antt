@@ -20,7 +20,8 @@ use Rattle.jbig2_symbol.specs.SymbolReading.{BitmapContexts, ClassReadings, Symb
 use Rattle.jbig2_symbol.specs.Symbols.{dictionary_by, dictionary_from, exported_grids, exports, export_runs, next_run, runs_from, symbols_decoded, symbols_exported}
 use Rattle.jbig2_text.specs.Refining.{Refining}
 use Rattle.jbig2_text.specs.Text.{Readings, TextParams}
-use Rattle.jbig2_text.specs.TextCoding.{CodedState, PrefixedState, by_coder, by_prefix_codes, in_band, next_id}
+use Rattle.jbig2_text.specs.TextCoding.{CodedState, PrefixedState, by_coder, by_prefix_codes, next_id}
+use Rattle.jbig2_coder.specs.Integers.{in_band}
 use Rattle.jbig2_framing.proofs.Agreeing.{Agrees, Same, agrees-then, same-if, same-itself, same-next, same-of, same-option, same-then}
 use Rattle.jbig2_page.proofs.AgreeingRegions.{mmr-same}
 use Rattle.jbig2_page.proofs.AgreeingTexts.{lenient_params, text-region-same}

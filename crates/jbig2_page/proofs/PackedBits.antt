@@ -3,10 +3,9 @@ use Rattle.std.proofs.Common.{◌≡◌, ℕ, zero, suc, ◌+◌, ◌-◌, ◌*�
 use Rattle.std.specs.List.{range_with_len}
 use Rattle.std.proofs.lemmas.List.FromFn.{get_or-map-range_with_len}
 use Rattle.std.proofs.lemmas.Nat.{mul-add-lt, div-mul-add, mod-mul-add}
-use Rattle.jbig2_base.specs.Bits.{bit, bit_number}
+use Rattle.jbig2_base.specs.Bits.{bit, bit_number, value_of_bits}
 use Rattle.jbig2_base.specs.Grid.{Grid, pixel_at}
 use Rattle.jbig2_base.proofs.BitLemmas.{bit_number-bit}
-use Rattle.jbig2_coder.specs.Integers.{value_of_bits}
 use Rattle.jbig2_page.specs.Image.{PackedBitsAreBytes, image_of, packed_byte, packed_of, packed_part, packed_size, row_bytes, shade}
 
 number-small : (b : Bool) → bit_number b ≤ 1

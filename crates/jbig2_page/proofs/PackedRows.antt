@@ -6,10 +6,9 @@ use Rattle.std.specs.List.{range_with_len}
 use Rattle.jbig2_base.specs.Results.{◌>>=◌}
 use Rattle.jbig2_base.specs.declared.error.DecodeError.{DecodeError}
 use Rattle.jbig2_base.specs.Grid.{Grid, pixel_at}
-use Rattle.jbig2_base.specs.Bits.{bit, bit_number}
+use Rattle.jbig2_base.specs.Bits.{bit, bit_number, value_of_bits}
 use Rattle.jbig2_base.proofs.BitLemmas.{bit_number-bit, bit-shr}
 use Rattle.jbig2_base.proofs.GridLemmas.{pixel_at-below, pixel_at-grid_of, pixel_at-right}
-use Rattle.jbig2_coder.specs.Integers.{value_of_bits}
 use Rattle.jbig2_page.specs.Page.{ReadPage, grid_of_page}
 use Rattle.jbig2_page.specs.Image.{packed_byte, packed_of, packed_of_page, packed_part, packed_size, row_bytes}
 use Rattle.jbig2_page.specs.inner.BufferBytes.{top_byte, word_byte}

@@ -10,9 +10,9 @@ use Rattle.jbig2_base.specs.declared.error.DecodeError.TheVariants.{OutOfMemory,
 use Rattle.jbig2_base.specs.declared.error.OverflowError.TheVariants.{ReferenceOffset}
 use Rattle.jbig2_base.specs.declared.error.RegionError.TheVariants.{InvalidDimension}
 use Rattle.std.specs.Prelude.{if◌then◌else◌}
-use Rattle.jbig2_region.specs.RegionInfo.{PlacedRegion}
+use Rattle.jbig2_region.specs.RegionInfo.{PlacedRegion, is_far}
 use Rattle.jbig2_region.specs.WholeRows.{refined_part}
-use Rattle.jbig2_region.specs.Refinement.{is_far, offset, refined_decoded}
+use Rattle.jbig2_region.specs.Refinement.{offset, refined_decoded}
 use Rattle.jbig2_region.specs.RefinementHeader.{RefinementHeader}
 use Rattle.jbig2_region.specs.declared.region_info.RegionSegmentInfo.{RegionSegmentInfo}
 use Rattle.jbig2_page.specs.Regions.{page_area}

@@ -14,7 +14,8 @@ use Rattle.jbig2_base.specs.declared.error.DecodeError.{DecodeError}
 use Rattle.jbig2_base.specs.declared.error.DecodeError.TheVariants.{OutOfMemory, Overflow}
 use Rattle.jbig2_base.specs.declared.error.OverflowError.TheVariants.{BitmapDimension}
 use Rattle.jbig2_base.proofs.GridLemmas.{grid_of-ext, pixel_at-below, pixel_at-grid_of, pixel_at-right}
-use Rattle.jbig2_region.specs.Generic.{context_at, generic_result, generic_coding, generic_grid, generic_region, known_colour, number_of, region_pixel}
+use Rattle.jbig2_region.specs.Generic.{context_at, generic_result, generic_coding, generic_grid, generic_region, known_colour, region_pixel}
+use Rattle.jbig2_base.specs.Bits.{number_of}
 use Rattle.jbig2_region.specs.GenericHeader.{GenericHeader, IsParsed}
 use Rattle.jbig2_region.specs.Raster.{Coding, Region, after_pixel, at_next, decoded_region, first_pixels, after_ltp, so_far, with_next}
 use Rattle.jbig2_region.specs.RegionInfo.{PlacedRegion, at_location}

@@ -3,10 +3,9 @@ use Rattle.std.specs.Prelude.{◌≡◌, ◌<◌, ℕ, ◌+◌, ◌-◌, ◌*◌
 use Rattle.std.specs.Prelude.{if◌then◌else◌}
 use Rattle.std.specs.List.{range_with_len}
 use Rattle.jbig2_base.specs.Results.{◌>>=◌}
-use Rattle.jbig2_base.specs.Bits.{bit}
+use Rattle.jbig2_base.specs.Bits.{bit, value_of_bits}
 use Rattle.jbig2_base.specs.Grid.{Grid, pixel_at}
 use Rattle.jbig2_base.specs.declared.error.DecodeError.{DecodeError}
-use Rattle.jbig2_coder.specs.Integers.{value_of_bits}
 use Rattle.jbig2_page.specs.Page.{ReadPage, grid_of_page}
 
 abbrev pub shade : Bool → ℕ

@@ -20,8 +20,7 @@ use Rattle.jbig2_framing.specs.declared.reading.Reading.{Reading}
 use Rattle.jbig2_framing.specs.declared.reading.Reading.TheVariants.{Salvage}
 use Rattle.jbig2_framing.specs.declared.segment.SegmentType.{SegmentType}
 use Rattle.jbig2_region.specs.GenericHeader.{generic_header_at}
-use Rattle.jbig2_region.specs.Refinement.{is_far}
-use Rattle.jbig2_region.specs.RegionInfo.{PlacedRegion, region_info_at}
+use Rattle.jbig2_region.specs.RegionInfo.{PlacedRegion, region_info_at, is_far}
 use Rattle.jbig2_region.specs.declared.region_info.RegionSegmentInfo.{RegionSegmentInfo}
 use Rattle.jbig2_page.specs.Names.{Names, kept_by, kept_under, no_names}
 use Rattle.jbig2_page.specs.Regions.{generic_at, halftone_at, refinement_at, text_at}

@@ -14,5 +14,6 @@ pub mod packed;
 pub mod page;
 pub mod passed_over;
 mod region;
+mod row_places;
 mod segment_price;
 mod workspace;

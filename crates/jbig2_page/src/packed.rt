@@ -8,6 +8,7 @@ ghost use Rattle.jbig2_steps.specs.Work.{sum_of_counts};
 
 pub mod drawn_rows;
 
+use crate::row_places::next_place;
 use jbig2_base::bitmap::Bitmap;
 use jbig2_steps::Steps;
 use std::alloc::Allocator;
@@ -100,18 +101,6 @@ fn put_words<A: Allocator, L: Ledger>(
         return most;
     }
     whole
-}
-
-/// Column `x` of row `y`; after the last column of a row comes the first one of the next row.
-#[inline(always)]
-pub(crate) fn next_place(x: usize, y: u32, width: usize) -> (usize, u32)
-    requires some { 0 < width }
-    requires within { x ≤ width }
-    requires few { y < u32.MAX }
-    ensures place { result.1 * width + result.0 ≡ y * width + x }
-    ensures inside { result.0 < width }
-{
-    if x == width { (0, y + 1) } else { (x, y) }
 }
 
 /// Writes bytes of the packed rows of a bitmap of this width, from byte `start` of all rows on: a bit for each pixel, 1

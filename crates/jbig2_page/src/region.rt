@@ -6,6 +6,7 @@ ghost use Rattle.jbig2_page.specs.Page.{is_immediate, region_at, region_type};
 ghost use Rattle.jbig2_page.specs.inner.ParsedRegions.{IsDecodable, DecodesTo, drawing_of};
 ghost use Rattle.jbig2_steps.specs.Work.{Paid};
 
+mod cell_price;
 mod generic;
 mod halftone;
 pub(crate) mod parsed_region;

@@ -11,7 +11,8 @@ use Rattle.jbig2_base.specs.declared.error.DecodeError.TheVariants.{Symbol}
 use Rattle.jbig2_base.specs.declared.error.SymbolError.TheVariants.{UnexpectedOob}
 use Rattle.jbig2_coder.specs.PrefixCode.{Member}
 use Rattle.jbig2_region.proofs.ResultCauses.{IfResult}
-use Rattle.jbig2_text.specs.TextCoding.{CodedState, in_band}
+use Rattle.jbig2_text.specs.TextCoding.{CodedState}
+use Rattle.jbig2_coder.specs.Integers.{in_band}
 use Rattle.jbig2_symbol.specs.Causes.{BreaksContexts, BreaksIdCodes, BreaksTables}
 use Rattle.jbig2_symbol.specs.ClassCauses.{BreaksExports, ClassCauses, ClassesHaveCauses, Where, coded_class_causes, prefixed_class_causes}
 use Rattle.jbig2_symbol.specs.HeightClasses.{new_symbols, size_in_word}

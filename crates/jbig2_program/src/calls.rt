@@ -5,18 +5,18 @@ ghost use Rattle.jbig2_program.specs.inner.Printing.{data_of, output_id, AddsMea
 ghost use Rattle.jbig2_program.specs.Printed.{calls_text, or_fault, Prints};
 
 use crate::fault::Fault;
-use crate::output::{Output, flush};
+use crate::output::{GATHERED, Output, flush};
 use crate::printer::{KnowsOutput, Printer};
 use hayro_jbig2::{DecodeError, Page};
 use std::alloc::Allocator;
 use std::io::Write;
 use std::marker::Brand;
 
-/// Memory for the bytes that are gathered before some are written, and for one more line.
-const ROOM: usize = 8256;
-
 /// Memory for a line.
 const LINE: usize = 64;
+
+/// Memory for the bytes that are gathered before some are written, and for one more line.
+const ROOM: usize = GATHERED + LINE;
 
 /// Prints the calls that draw a page.
 pub fn print_calls<A: Allocator + Clone, O: Write>(

@@ -8,7 +8,7 @@ use std::alloc::Allocator;
 use std::io::{ErrorKind, Write};
 
 /// How many bytes are gathered before some are written, at least.
-const GATHERED: usize = 8192;
+pub(crate) const GATHERED: usize = 8192;
 
 /// An output, and the bytes that are not yet written to it. Unlike `BufWriter` it keeps all bytes
 /// after a failure too, and its proofs know which output it has.

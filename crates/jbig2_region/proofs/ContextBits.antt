@@ -5,9 +5,9 @@ use Rattle.std.proofs.lemmas.List.{length-map, map-append}
 use Rattle.std.proofs.lemmas.Nat.{mod-pow-add, shr-shr, mul-add-lt, pow-add}
 use Rattle.std.proofs.Math.Nat.{pow-le-pow_right}
 use Rattle.jbig2_base.specs.Grid.{Grid, pixel}
-use Rattle.jbig2_base.specs.Bits.{bit, bit_number}
+use Rattle.jbig2_base.specs.Bits.{bit, bit_number, number_of}
 use Rattle.jbig2_base.proofs.BitLemmas.{bit_number-bit}
-use Rattle.jbig2_region.specs.Generic.{number_of, context_at}
+use Rattle.jbig2_region.specs.Generic.{context_at}
 use Rattle.jbig2_region.specs.inner.Neighbours.{side_by_side}
 use Rattle.jbig2_region.proofs.ContextLemmas.{context-lt}
 use Rattle.jbig2_region.specs.declared.template.AdaptiveTemplatePixel.{AdaptiveTemplatePixel}

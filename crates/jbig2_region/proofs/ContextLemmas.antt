@@ -4,8 +4,8 @@ use Rattle.std.proofs.Math.Seq.{drop-cons, drop-length}
 use Rattle.std.proofs.lemmas.List.{length-drop, length-map}
 use Rattle.std.proofs.Math.Nat.{pow-le-pow_right}
 use Rattle.jbig2_base.specs.Grid.{Grid, pixel}
-use Rattle.jbig2_base.specs.Bits.{bit_number}
-use Rattle.jbig2_region.specs.Generic.{number_of, context_at}
+use Rattle.jbig2_base.specs.Bits.{bit_number, number_of}
+use Rattle.jbig2_region.specs.Generic.{context_at}
 use Rattle.jbig2_region.specs.declared.template.AdaptiveTemplatePixel.{AdaptiveTemplatePixel}
 
 pub context-step : (pixels : List AdaptiveTemplatePixel) (g : Grid) (x y k : ℕ) (p : AdaptiveTemplatePixel) (n b : ℕ) → k < length pixels → n ≡ context_at (drop (k + 1) pixels) g x y → b ≡ bit_number (pixel g (pos x +ℤ (get_or pixels k p).x) (pos y +ℤ (get_or pixels k p).y)) → 2 * n + b ≡ context_at (drop k pixels) g x y

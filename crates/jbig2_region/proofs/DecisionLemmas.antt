@@ -2,7 +2,7 @@
 use Rattle.std.proofs.Common.{subst, ap, ◌≡◌, ℕ, ◌+◌, ◌*◌, ◌≤◌, Bool, add-one, List, length, refl, ◌∙◌, arith}
 use Rattle.jbig2_base.specs.Counts.{Counts}
 use Rattle.jbig2_base.specs.Grid.{Grid}
-use Rattle.jbig2_base.proofs.LaneCounts.{lanes-none}
+use Rattle.jbig2_steps.proofs.LaneCounts.{lanes-none}
 use Rattle.jbig2_coder.specs.Coder.{Coder, Context}
 use Rattle.jbig2_region.specs.Steps.{CountsDecided}
 use Rattle.jbig2_region.specs.inner.RowCounts.{decided_pixels, decided_rows}

@@ -7,9 +7,8 @@ use Rattle.jbig2_steps.specs.Work.{paid_words, sum_of_counts, price_of_bitmap, w
 use Rattle.jbig2_steps.proofs.WorkLemmas.{room-paid}
 use Rattle.jbig2_region.specs.GenericSteps.{CountsCoded, read_pixels}
 use Rattle.jbig2_region.specs.Raster.{Coding, Region, row_decisions, source}
-use Rattle.jbig2_region.specs.Steps.{CountsRegion, coded_pixels, row_loads, row_tests, row_words}
+use Rattle.jbig2_region.specs.Steps.{CountsRegion, coded_pixels, row_loads, row_tests, row_words, CountsWholeRows}
 use Rattle.jbig2_region.specs.Templates.{adaptive_pixel_count, context_bits, is_nominal}
-use Rattle.jbig2_region.specs.WholeRows.{CountsWholeRows}
 use Rattle.jbig2_region.specs.declared.template.AdaptiveTemplatePixel.{AdaptiveTemplatePixel}
 use Rattle.jbig2_region.specs.declared.template.Template.{Template}
 use Rattle.jbig2_region.specs.declared.template.Template.TheVariants.{Template0, Template1, Template2, Template3}

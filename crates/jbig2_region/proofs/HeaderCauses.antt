@@ -15,10 +15,10 @@ use Rattle.jbig2_base.proofs.CauseSteps.{call-cause}
 use Rattle.jbig2_base.proofs.Causes.{cause-next, cause-number, cause-refused, number-there, same-ok, went}
 use Rattle.jbig2_region.specs.Causes.{BreaksGenericHeader, BreaksOffset, BreaksRefinementHeader, pixels_in}
 use Rattle.jbig2_region.specs.GenericHeader.{generic_header_at, rows_at}
-use Rattle.jbig2_region.specs.Refinement.{is_far, offset}
+use Rattle.jbig2_region.specs.Refinement.{offset}
 use Rattle.jbig2_region.specs.RefinementHeader.{refinement_header_at}
 use Rattle.jbig2_region.specs.RefinementTemplates.{refinement_pixel_count, refinement_pixels_at, refinement_template_of}
-use Rattle.jbig2_region.specs.RegionInfo.{region_info_at, PlacedRegion}
+use Rattle.jbig2_region.specs.RegionInfo.{region_info_at, PlacedRegion, is_far}
 use Rattle.jbig2_region.specs.Templates.{adaptive_pixel_count, adaptive_pixels_at, template_of}
 use Rattle.jbig2_region.specs.declared.region_info.RegionSegmentInfo.{RegionSegmentInfo}
 use Rattle.jbig2_region.specs.declared.template.RefinementTemplate.TheVariants as refinements

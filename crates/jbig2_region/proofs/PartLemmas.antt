@@ -17,10 +17,10 @@ use Rattle.jbig2_steps.specs.Work.{paid_words, price_of_bitmap, sum_of_counts, w
 use Rattle.jbig2_steps.proofs.WorkLemmas.{room-paid}
 use Rattle.jbig2_region.specs.Raster.{Coding, Source, no_pixels, source}
 use Rattle.jbig2_coder.specs.Coder.{fresh_contexts}
-use Rattle.jbig2_region.specs.Refinement.{Reference, is_far, offset, reference_of, refined_decoded, refined_grid, refinement_coding}
+use Rattle.jbig2_region.specs.Refinement.{Reference, offset, reference_of, refined_decoded, refined_grid, refinement_coding}
 use Rattle.jbig2_region.specs.RefinementHeader.{IsRefinement, RefinementHeader}
 use Rattle.jbig2_region.specs.RefinementTemplates.{refinement_bits}
-use Rattle.jbig2_region.specs.RegionInfo.{PlacedRegion, at_location}
+use Rattle.jbig2_region.specs.RegionInfo.{PlacedRegion, at_location, is_far}
 use Rattle.jbig2_base.proofs.Causes.{same-ok}
 use Rattle.jbig2_base.specs.Combination.{combined_grid}
 use Rattle.jbig2_base.specs.declared.bitmap.operator.CombinationOperator.TheVariants.{Replace}

@@ -7,8 +7,10 @@ use Rattle.std.proofs.lemmas.List.{append-nil, length-map}
 use Rattle.std.specs.List.{list_all}
 use Rattle.jbig2_base.specs.Counts.{Counts}
 use Rattle.jbig2_base.specs.Grid.{Grid, blank}
-use Rattle.jbig2_region.specs.{Generic.{number_of, region_pixel, context_at}, RegionInfo.{PlacedRegion}}
-use Rattle.jbig2_region.specs.Refinement.{Reference, reference_pixel, refined_context, nine, common_colour, refinement_coding, refined_region, refined_grid, refined_result, refined_contexts, reference_of, offset, is_far}
+use Rattle.jbig2_base.specs.Bits.{number_of}
+use Rattle.jbig2_region.specs.{Generic.{region_pixel, context_at}, RegionInfo.{PlacedRegion}}
+use Rattle.jbig2_region.specs.Refinement.{Reference, reference_pixel, refined_context, nine, common_colour, refinement_coding, refined_region, refined_grid, refined_result, refined_contexts, reference_of, offset}
+use Rattle.jbig2_region.specs.RegionInfo.{is_far}
 use Rattle.jbig2_region.specs.RefinementHeader.{RefinementHeader}
 use Rattle.jbig2_region.specs.Steps.{CountsDecided, CountsRefined, refinement_loads}
 use Rattle.jbig2_region.specs.RefinementTemplates.{refinement_bits}

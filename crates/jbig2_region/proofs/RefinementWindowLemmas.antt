@@ -4,10 +4,10 @@ use Rattle.std.proofs.lemmas.Bool.{cases_eq, cases_lt, eq-eqb, ne_eqb}
 use Rattle.std.proofs.lemmas.Int.{ints}
 use Rattle.std.proofs.lemmas.Nat.{shr-shr}
 use Rattle.jbig2_base.specs.Grid.{Grid, pixel, pixel_at}
-use Rattle.jbig2_base.specs.Bits.{bit, bit_number}
+use Rattle.jbig2_base.specs.Bits.{bit, bit_number, number_of}
 use Rattle.jbig2_base.proofs.BitLemmas.{bit-above, bit-shl_high, bit-shl_low, bit-shr, bit-zero, bit_number-bit}
 use Rattle.jbig2_base.proofs.GridLemmas.{pixel_at-right}
-use Rattle.jbig2_region.specs.Generic.{number_of, region_pixel}
+use Rattle.jbig2_region.specs.Generic.{region_pixel}
 use Rattle.jbig2_region.specs.Refinement.{Reference, reference_pixel, refined_context, nine, common_colour}
 use Rattle.jbig2_region.specs.RefinementTemplates.{at_xy, reference_pixels, region_pixels}
 use Rattle.jbig2_region.specs.inner.Neighbours.{SameAbove}

@@ -1,7 +1,7 @@
 -- Regions row by row, with their counts.
 use Rattle.std.proofs.Common.{subst, ◌≡◌, ℕ, ◌+◌, ◌*◌, ◌≤◌, Bool, true, false, cond, add-one, List, length, Option, refl, sym, ◌∙◌, arith}
 use Rattle.jbig2_base.specs.Counts.{Counts, KeepsLanes}
-use Rattle.jbig2_base.proofs.LaneCounts.{lanes-none}
+use Rattle.jbig2_steps.proofs.LaneCounts.{lanes-none}
 use Rattle.jbig2_base.specs.Grid.{Grid}
 use Rattle.jbig2_coder.specs.Coder.{Coder, Context}
 use Rattle.jbig2_region.specs.inner.RegionStates.{HasDecoded, BeginsRow, region_state}

@@ -5,7 +5,7 @@ use Rattle.jbig2_base.specs.Grid.{Grid}
 use Rattle.jbig2_base.specs.Bits.{bit}
 use Rattle.jbig2_base.specs.Writes.{with_pixels}
 use Rattle.jbig2_base.proofs.BitLemmas.{bit-zero}
-use Rattle.jbig2_base.proofs.LaneCounts.{lanes-none}
+use Rattle.jbig2_steps.proofs.LaneCounts.{lanes-none}
 use Rattle.jbig2_coder.specs.Coder.{Coder, Context}
 use Rattle.jbig2_region.specs.Steps.{how_many, pixel_decisions, takes_decision}
 use Rattle.jbig2_region.specs.inner.RowCounts.{decided_rows}

@@ -6,9 +6,9 @@ use Rattle.std.proofs.lemmas.List.{replicate-append-replicate, length-replicate}
 use Rattle.std.proofs.lemmas.Nat.{same_from_place, mod_below, pow_pos}
 use Rattle.std.proofs.lemmas.Nat.Bits.{same_from_bits_below}
 use Rattle.jbig2_base.specs.Grid.{Grid, pixel}
-use Rattle.jbig2_base.specs.Bits.{bit, bit_number}
+use Rattle.jbig2_base.specs.Bits.{bit, bit_number, number_of}
 use Rattle.jbig2_base.proofs.BitLemmas.{bit_number-bit, bit-zero, bit-ones, bit-mod, bit-shr}
-use Rattle.jbig2_region.specs.Generic.{number_of, context_at}
+use Rattle.jbig2_region.specs.Generic.{context_at}
 use Rattle.jbig2_region.specs.inner.Neighbours.{side_by_side, is_field}
 use Rattle.jbig2_region.proofs.ContextBits.{number_of-append}
 

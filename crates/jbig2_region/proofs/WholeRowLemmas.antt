@@ -7,8 +7,8 @@ use Rattle.jbig2_base.specs.Counts.{Counts}
 use Rattle.jbig2_base.specs.Grid.{Grid, blank}
 use Rattle.jbig2_coder.specs.Coder.{Coder, Context, Registers, is_within}
 use Rattle.jbig2_region.specs.Raster.{Coding, Region, Source, at_pixel, first_pixels, no_pixels, row_decisions, source}
-use Rattle.jbig2_region.specs.Steps.{takes_decision}
-use Rattle.jbig2_region.specs.WholeRows.{CountsWholeRows, after_row, whole_rows}
+use Rattle.jbig2_region.specs.Steps.{takes_decision, CountsWholeRows}
+use Rattle.jbig2_region.specs.WholeRows.{after_row, whole_rows}
 use Rattle.jbig2_region.specs.inner.RegionStates.{BeginsRow, HasDecoded, counted_region, region_state}
 use Rattle.jbig2_region.specs.inner.RowCounts.{decided_rows}
 use Rattle.jbig2_region.specs.inner.Rows.{after_rows}

@@ -1,11 +1,11 @@
 -- Generic regions (T.88, 6.2): coded by the arithmetic coder in the contexts of a template, or by MMR. Some pixels may
 -- be skipped (USESKIP). `generic_decoded` takes the header with the coded bytes and gives the grid at its place.
 -- `contexts_after` gives the contexts after the region.
-use Rattle.std.specs.Prelude.{ℕ, ◌+◌, ◌*◌, Bool, false, if◌then◌else◌, List, [], ◌∷◌, map, Option, Some, None, pos}
+use Rattle.std.specs.Prelude.{ℕ, ◌+◌, Bool, false, if◌then◌else◌, List, map, Option, Some, None, pos}
 use Rattle.std.specs.Prelude.{negsuc, ◌+ℤ◌, Result, Ok}
 use Rattle.jbig2_base.specs.Results.{◌>>=◌}
 use Rattle.jbig2_base.specs.Grid.{Grid, pixel, pixel_at}
-use Rattle.jbig2_base.specs.Bits.{bit_number}
+use Rattle.jbig2_base.specs.Bits.{number_of}
 use Rattle.jbig2_base.specs.declared.error.DecodeError.{DecodeError}
 use Rattle.jbig2_coder.specs.Coder.{Context, initial_registers}
 use Rattle.jbig2_mmr.specs.T6.{mmr_rows, grid_of_rows, rows_of}
@@ -16,10 +16,6 @@ use Rattle.jbig2_region.specs.RegionInfo.{at_location, PlacedRegion}
 use Rattle.jbig2_region.specs.Templates.{context_bits, row_context, template_pixels}
 use Rattle.jbig2_region.specs.declared.template.AdaptiveTemplatePixel.{AdaptiveTemplatePixel}
 use Rattle.jbig2_region.specs.declared.template.Template.{Template}
-
-abbrev pub number_of : List Bool → ℕ  -- the number that bits make, bit 0 first
-number_of [] = 0
-number_of (b ∷ bits) = bit_number b + 2 * number_of bits
 
 -- a template's pixel, seen from column x of row y
 abbrev pub region_pixel : Grid → ℕ → ℕ → AdaptiveTemplatePixel → Bool

@@ -1,7 +1,7 @@
 -- Refinements (T.88, 6.3): they are coded as generic regions are, with templates that lie in two grids.
 -- `refined_decoded` takes the header and the region that is refined. It gives the refined region at its place on the
 -- page, or an error.
-use Rattle.std.specs.Prelude.{ℕ, Bool, true, false, not, ◌||◌, nat_lt, nat_le, if◌then◌else◌, List, [], ◌∷◌, ◌++◌, map}
+use Rattle.std.specs.Prelude.{ℕ, Bool, true, false, not, ◌||◌, nat_lt, if◌then◌else◌, List, [], ◌∷◌, ◌++◌, map}
 use Rattle.std.specs.Prelude.{Option, Some, None, ℤ, pos, negsuc, ◌+ℤ◌, ◌-ℤ◌, Result, Ok, is_ok}
 use Rattle.std.specs.List.{list_all}
 use Rattle.jbig2_base.specs.Results.{◌>>=◌, refuse_if}
@@ -10,13 +10,14 @@ use Rattle.jbig2_base.specs.declared.error.DecodeError.{DecodeError}
 use Rattle.jbig2_base.specs.declared.error.OverflowError.TheVariants.{ReferenceOffset}
 use Rattle.jbig2_base.specs.declared.error.RegionError.TheVariants.{InvalidDimension}
 use Rattle.jbig2_coder.specs.Coder.{Context, initial_registers}
-use Rattle.jbig2_region.specs.Generic.{number_of, region_pixel}
+use Rattle.jbig2_region.specs.Generic.{region_pixel}
+use Rattle.jbig2_base.specs.Bits.{number_of}
 use Rattle.jbig2_region.specs.Raster.{Coding, Region, so_far, decoded_region, no_pixels}
 use Rattle.jbig2_coder.specs.Coder.{fresh_contexts}
 use Rattle.jbig2_region.specs.RefinementHeader.{RefinementHeader}
 use Rattle.jbig2_region.specs.RefinementTemplates.{at_xy, reference_pixels, refinement_row_context, region_pixels}
 use Rattle.jbig2_region.specs.RefinementTemplates.{refinement_bits}
-use Rattle.jbig2_region.specs.RegionInfo.{PlacedRegion, at_location}
+use Rattle.jbig2_region.specs.RegionInfo.{PlacedRegion, at_location, is_far}
 use Rattle.jbig2_region.specs.declared.region_info.RegionSegmentInfo.{RegionSegmentInfo}
 use Rattle.jbig2_region.specs.declared.template.AdaptiveTemplatePixel.{AdaptiveTemplatePixel}
 use Rattle.jbig2_region.specs.declared.template.RefinementTemplate.{RefinementTemplate}
@@ -61,9 +62,6 @@ refined_coding template typical in_reference in_region r = record {
 abbrev pub refinement_coding : RefinementTemplate → Bool → List AdaptiveTemplatePixel → Reference → Coding
 refinement_coding template typical a r =
     refined_coding template typical (reference_pixels template a) (region_pixels template a) r
-
-abbrev pub is_far : ℕ → Bool
-is_far location = nat_le 0x80000000 location
 
 abbrev pub is_smaller : PlacedRegion → RegionSegmentInfo → Bool
 is_smaller from info = nat_lt from.grid.width info.width || nat_lt from.grid.height info.height

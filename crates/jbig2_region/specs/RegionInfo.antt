@@ -1,6 +1,6 @@
 -- The region segment information field (T.88, 7.4.1), with which every region segment begins, and a region at its
 -- place. `region_info_at` takes bytes and gives the field with the bytes after it, or the first fault.
-use Rattle.std.specs.Prelude.{ℕ, ◌/◌, ◌%◌, ◌≡◌, ◌==◌, false, List, Result, Ok}
+use Rattle.std.specs.Prelude.{ℕ, ◌/◌, ◌%◌, ◌≡◌, ◌==◌, nat_le, Bool, false, List, Result, Ok}
 use Rattle.std.specs.Int.{w8, w32}
 use Rattle.jbig2_base.specs.Results.{refuse_if, ◌>>=◌}
 use Rattle.jbig2_base.specs.Fields.{number_at}
@@ -22,6 +22,9 @@ region_info_at bytes = do
   operator ← operator_of (flags % 8)
   plain ← refuse_if (flags / 8 % 2 == 1) Unsupported
   Ok (record { width = width; height = height; x_location = x; y_location = y; combination_operator = operator }, rest)
+
+abbrev pub is_far : ℕ → Bool  -- a column or row from 2^31 on, which is none if the number is read as a signed one
+is_far location = nat_le 0x80000000 location
 
 abbrev pub IsWhiteFor : RegionSegmentInfo → Grid → Type 0
 IsWhiteFor info g = g ≡ blank info.width info.height false

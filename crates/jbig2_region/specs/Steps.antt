@@ -4,9 +4,9 @@ use Rattle.std.specs.Prelude.{◌≡◌, ℕ, zero, suc, ◌+◌, ◌-◌, ◌*�
 use Rattle.std.specs.Prelude.{nat_lt, if◌then◌else◌, List, ◌++◌, length, replicate, slice_index_or, is_none, Option}
 use Rattle.jbig2_base.specs.Counts.{Counts, KeepsLanes, bitmap_made}
 use Rattle.jbig2_base.specs.Grid.{same_colour, Grid}
-use Rattle.jbig2_base.specs.Bits.{bit_number}
+use Rattle.jbig2_base.specs.Bits.{bit_number, number_of}
 use Rattle.jbig2_coder.specs.Coder.{fresh, all_quiet, initial_registers}
-use Rattle.jbig2_region.specs.Generic.{context_at, number_of, is_skipped}
+use Rattle.jbig2_region.specs.Generic.{context_at, is_skipped}
 use Rattle.jbig2_region.specs.Raster.{Coding, Region, Source, source, so_far, at_pixel, no_pixels}
 use Rattle.jbig2_coder.specs.Coder.{fresh_contexts}
 use Rattle.jbig2_region.specs.Raster.{row_decisions}
@@ -44,6 +44,15 @@ pub record CountsDecided (coding : Coding) (row_loads : ℕ) (s : Source) (befor
       after.decisions
       ≡ before.decisions
       + (s.rows * row_decisions coding.row_context + pixel_decisions coding s.columns s.rows s.bytes s.start)
+  pub run_tests : after.run_tests ≡ before.run_tests
+  pub words : after.words ≤ before.words + s.rows * s.columns
+  pub loads : after.loads ≤ before.loads + s.rows * row_loads
+  pub lanes : KeepsLanes before after
+
+-- The steps of counting the whole rows of a region (`whole_rows`), as in `CountsDecided`, but perhaps of fewer rows: at
+-- most one decision a pixel and one a row, and no run test and no lanes.
+pub record CountsWholeRows (row_loads : ℕ) (s : Source) (before after : Counts) : Type 0 where
+  pub decisions : after.decisions ≤ before.decisions + s.rows * (s.columns + 1)
   pub run_tests : after.run_tests ≡ before.run_tests
   pub words : after.words ≤ before.words + s.rows * s.columns
   pub loads : after.loads ≤ before.loads + s.rows * row_loads

@@ -1,9 +1,8 @@
 -- The whole rows of coded data that is cut off (our own rule). A row is whole if the coder had not read beyond the last
 -- byte when the row ended. What is decoded later is not what was written.
-use Rattle.std.specs.Prelude.{◌≡◌, ◌≤◌, ℕ, zero, suc, ◌+◌, ◌*◌, ◌==◌, ◌&&◌, if◌then◌else◌, false, length, pos}
+use Rattle.std.specs.Prelude.{ℕ, zero, suc, ◌*◌, ◌==◌, ◌&&◌, if◌then◌else◌, false, length, pos}
 use Rattle.std.specs.Prelude.{Result, Ok}
 use Rattle.jbig2_base.specs.Combination.{combined_grid}
-use Rattle.jbig2_base.specs.Counts.{Counts, KeepsLanes}
 use Rattle.jbig2_base.specs.Grid.{blank}
 use Rattle.jbig2_base.specs.Results.{◌>>=◌}
 use Rattle.jbig2_base.specs.declared.bitmap.operator.CombinationOperator.TheVariants.{Replace}
@@ -30,15 +29,6 @@ module _ (coding : Coding) (s : Source) where
   whole_rows (suc n) =
       let above = whole_rows n in
       if above == n && is_within s.bytes (after_row (suc n)).registers then suc n else above
-
--- The steps of counting them, as in `CountsDecided`, but perhaps of fewer rows: at most one decision a pixel and one a
--- row, and no run test and no lanes.
-pub record CountsWholeRows (row_loads : ℕ) (s : Source) (before after : Counts) : Type 0 where
-  pub decisions : after.decisions ≤ before.decisions + s.rows * (s.columns + 1)
-  pub run_tests : after.run_tests ≡ before.run_tests
-  pub words : after.words ≤ before.words + s.rows * s.columns
-  pub loads : after.loads ≤ before.loads + s.rows * row_loads
-  pub lanes : KeepsLanes before after
 
 -- The whole rows of a generic region. MMR data has those before its first fault. A region without columns has all rows.
 abbrev pub whole_generic_rows : GenericHeader → ℕ

@@ -7,12 +7,13 @@ ghost use Rattle.jbig2_region.specs.inner.RegionStates.{DecodesRegion, IsReady, 
 ghost use Rattle.jbig2_region.specs.Generic.{context_at, coding_of, masked_coding, white_if_skipped};
 ghost use Rattle.jbig2_region.specs.inner.RegionViews.{skip_of};
 ghost use Rattle.jbig2_region.specs.GenericSteps.{CountsCoded, read_pixels};
-ghost use Rattle.jbig2_region.specs.Steps.{CountsRegion};
+ghost use Rattle.jbig2_region.specs.Steps.{CountsRegion, CountsWholeRows};
 ghost use Rattle.jbig2_region.specs.Templates.{FitsTemplate, context_bits, is_nominal, template_pixels};
 ghost use Rattle.jbig2_region.specs.inner.PixelArrays.{four_pixels, is_extended, pixels_view};
-ghost use Rattle.jbig2_region.specs.WholeRows.{CountsWholeRows, whole_rows};
+ghost use Rattle.jbig2_region.specs.WholeRows.{whole_rows};
 
 use crate::generic_kernel::decode_layout;
+use crate::pixel_context::context_at;
 use crate::raster::{PixelCoding, Row, count_whole_rows, decode_region, pixel_at};
 use crate::template::generic::{extended_template_0, typical_context};
 use crate::template::layouts::layout_of;
@@ -23,53 +24,6 @@ use jbig2_coder::arithmetic_decoder::{ArithmeticDecoder, ArithmeticDecoderContex
 use jbig2_steps::Steps;
 use std::alloc::Allocator;
 use std::sync::ledger::Ledger;
-
-/// The template's pixel at `place`, seen from column `x` of row `y`.
-#[inline(always)]
-fn pixel_near<A: Allocator, L: Ledger>(
-    bitmap: &Bitmap<A>,
-    x: u32,
-    y: u32,
-    place: AdaptiveTemplatePixel,
-    steps: &mut Steps<L>,
-) -> u8
-    requires column { x < 65536 }
-    requires row { y < 65536 }
-    ensures value { result ≡ bit_number (pixel bitmap.now (pos x +ℤ place.x) (pos y +ℤ place.y)) }
-    ensures steps { steps.new ≡ record steps.old { loads = steps.old.loads + 1 } }
-{
-    pixel_at(
-        bitmap,
-        x as i32 + i32::from(place.x),
-        y as i32 + i32::from(place.y),
-        steps,
-    )
-}
-
-/// The number of the context at column `x` of row `y`.
-#[inline(always)]
-pub fn context_at<A: Allocator, L: Ledger>(
-    pixels: &[AdaptiveTemplatePixel],
-    bitmap: &Bitmap<A>,
-    x: u32,
-    y: u32,
-    steps: &mut Steps<L>,
-) -> u32
-    requires few { length pixels.now ≤ 16 }
-    requires column { x < 65536 }
-    requires row { y < 65536 }
-    ensures value { result ≡ context_at pixels.now bitmap.now x y }
-    ensures small { result < 2 ^ length pixels.now }
-    ensures steps { steps.new ≡ record steps.old { loads = steps.old.loads + length pixels.now } }
-{
-    let mut context = 0;
-    let mut left = pixels.len();
-    while left > 0 {
-        left -= 1;
-        context = 2 * context + u32::from(pixel_near(bitmap, x, y, pixels[left], steps));
-    }
-    context
-}
 
 /// The colour of the pixel above, which a pixel of a predicted row takes.
 #[inline(always)]

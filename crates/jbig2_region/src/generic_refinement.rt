@@ -2,9 +2,9 @@
 ghost use Rattle.std.specs.Prelude.{◌≡◌, OnErr, OnOk};
 ghost use Rattle.jbig2_steps.specs.Work.{CountsBeside, CountsWithin, paid_words, price_of_bitmap};
 ghost use Rattle.jbig2_base.specs.Results.{Returns, Gives, Leaves};
-ghost use Rattle.jbig2_region.specs.RegionInfo.{IsWhiteFor};
+ghost use Rattle.jbig2_region.specs.RegionInfo.{IsWhiteFor, is_far};
 ghost use Rattle.jbig2_region.specs.inner.RegionViews.{region_view};
-ghost use Rattle.jbig2_region.specs.Refinement.{is_far, is_smaller, offset, refined_result, refined_contexts, refined_decoded};
+ghost use Rattle.jbig2_region.specs.Refinement.{is_smaller, offset, refined_result, refined_contexts, refined_decoded};
 ghost use Rattle.jbig2_region.specs.Steps.{CountsRefined, region_made};
 ghost use Rattle.jbig2_region.specs.RefinementHeader.{IsRefinement};
 ghost use Rattle.jbig2_region.specs.inner.RefinementHeaderViews.{header_view};
@@ -15,6 +15,7 @@ pub mod header;
 mod part;
 
 use crate::decoded_region::DecodedRegion;
+pub use crate::reference_bitmap::ReferenceBitmap;
 pub use crate::refinement_coding::decode_bitmap;
 use crate::region_info::RegionSegmentInfo;
 pub use crate::template::adaptive::parse_template_pixels;
@@ -28,15 +29,6 @@ use jbig2_steps::Steps;
 pub use part::decode_part;
 use std::alloc::Allocator;
 use std::sync::ledger::Ledger;
-
-/// The reference of a refinement: a bitmap whose top left pixel lies `dx` columns to the right of the
-/// region's and `dy` rows below it.
-#[derive(Drop)]
-pub struct ReferenceBitmap<'a, B: Allocator> {
-    pub bitmap: &'a Bitmap<B>,
-    pub dx: i32,
-    pub dy: i32,
-}
 
 /// Whether the reference is narrower or lower than the region.
 fn is_smaller<B: Allocator>(reference: &DecodedRegion<B>, region_info: &RegionSegmentInfo) -> bool

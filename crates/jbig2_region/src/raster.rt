@@ -3,10 +3,10 @@
 ghost use Rattle.std.specs.Prelude.{◌≡◌, ℕ, ◌+◌, ◌*◌, ◌^◌, ◌<◌, ◌≤◌, length, IfSome, false, Some, pos, ◌<ℤ◌};
 ghost use Rattle.jbig2_base.specs.Grid.{pixel, max_side};
 ghost use Rattle.jbig2_base.specs.Bits.{bit_number};
-ghost use Rattle.jbig2_region.specs.Steps.{CountsDecided};
+ghost use Rattle.jbig2_region.specs.Steps.{CountsDecided, CountsWholeRows};
 ghost use Rattle.jbig2_region.specs.Raster.{Coding};
 ghost use Rattle.jbig2_region.specs.inner.RegionStates.{DecodesRegion, IsReady, counted_region, region_state, source_of};
-ghost use Rattle.jbig2_region.specs.WholeRows.{CountsWholeRows, whole_rows};
+ghost use Rattle.jbig2_region.specs.WholeRows.{whole_rows};
 ghost use Rattle.jbig2_region.specs.inner.DecodedPixels.{DecodesPixels};
 
 use crate::row_decision::begin_row;

@@ -1,20 +1,19 @@
 //! Decodes refinements, and makes their contexts (T.88, 6.3.5.3 to 6.3.5.6).
 ghost use Rattle.std.specs.Prelude.{◌≡◌, ◌+◌, ◌*◌, ◌^◌, ◌<◌, ◌≤◌, ◌++◌, Bool, List, length, map, pos, ◌+ℤ◌, ◌-ℤ◌, ◌<ℤ◌};
 ghost use Rattle.jbig2_base.specs.Grid.{pixel};
-ghost use Rattle.jbig2_base.specs.Bits.{bit_number};
-ghost use Rattle.jbig2_region.specs.Steps.{CountsDecided};
-ghost use Rattle.jbig2_region.specs.Generic.{number_of};
+ghost use Rattle.jbig2_base.specs.Bits.{bit_number, number_of};
+ghost use Rattle.jbig2_region.specs.Steps.{CountsDecided, CountsWholeRows};
 ghost use Rattle.jbig2_region.specs.Steps.{refinement_loads};
 ghost use Rattle.jbig2_region.specs.inner.RegionStates.{DecodesRegion, IsReady, region_state, source_of};
 ghost use Rattle.jbig2_region.specs.inner.ReferenceViews.{reference_view};
 ghost use Rattle.jbig2_region.specs.Refinement.{nine, common_colour, reference_pixel, refinement_coding};
 ghost use Rattle.jbig2_region.specs.RefinementTemplates.{refinement_bits};
 ghost use Rattle.jbig2_region.specs.inner.PixelArrays.{two_pixels};
-ghost use Rattle.jbig2_region.specs.WholeRows.{CountsWholeRows, whole_rows};
+ghost use Rattle.jbig2_region.specs.WholeRows.{whole_rows};
 
-use crate::generic_coding::context_at;
-use crate::generic_refinement::ReferenceBitmap;
+use crate::pixel_context::context_at;
 use crate::raster::{PixelCoding, Row, count_whole_rows, decode_region, far_pixel};
+use crate::reference_bitmap::ReferenceBitmap;
 use crate::refinement_kernel::{WindowedCoding, decode_windowed};
 use crate::template::refinement::{
     is_nominal, reference_0, reference_1, region_0, region_1, typical_context,

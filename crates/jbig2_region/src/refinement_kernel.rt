@@ -15,8 +15,8 @@ ghost use Rattle.jbig2_region.specs.inner.Windows.{IsLeft};
 mod lanes;
 mod windows;
 
-use crate::generic_refinement::ReferenceBitmap;
 use crate::raster::Row;
+use crate::reference_bitmap::ReferenceBitmap;
 use crate::refinement_kernel::lanes::{lanes_at, lanes_context};
 use crate::refinement_kernel::windows::{
     RefinementWindows, leading_ones, leading_zeros, windows_at,

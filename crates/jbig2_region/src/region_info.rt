@@ -4,7 +4,6 @@ ghost use Rattle.jbig2_region.specs.RegionInfo.{region_info_at};
 ghost use Rattle.jbig2_base.specs.Causes.{HasCause};
 ghost use Rattle.jbig2_region.specs.Causes.{BreaksRegionInfo};
 
-pub use crate::decoded_region::DecodedRegion;
 use jbig2_base::bitmap::operator::CombinationOperator;
 use jbig2_base::error::{DecodeError, Result};
 use jbig2_base::field::{byte_field, u32_field};

@@ -2,7 +2,7 @@
 //! pixels.
 ghost use Rattle.std.specs.Prelude.{◌≡◌, ◌%◌, ◌^◌, ◌<◌, pos};
 ghost use Rattle.jbig2_region.specs.RefinementTemplates.{refinement_bits, refinement_template_of};
-ghost use Rattle.jbig2_region.specs.Templates.{template_of, context_bits, nominal_adaptive_pixels, row_context};
+ghost use Rattle.jbig2_region.specs.Templates.{template_of, context_bits, lies_at, nominal_adaptive_pixels, row_context};
 ghost use Rattle.jbig2_region.specs.inner.PixelArrays.{pixel_array, four_pixels};
 
 pub(crate) mod adaptive;
@@ -130,6 +130,13 @@ pub(crate) const fn pixel(x: i16, y: i16) -> AdaptiveTemplatePixel
     ensures { result ≡ record { x = x; y = y } }
 {
     AdaptiveTemplatePixel { x, y }
+}
+
+/// Whether a pixel has this place.
+pub(crate) fn lies_at(pixel: AdaptiveTemplatePixel, x: i16, y: i16) -> bool
+    ensures { result ≡ lies_at pixel x y }
+{
+    pixel.x == x && pixel.y == y
 }
 
 /// The adaptive pixels of a generic region, A1 first.

@@ -1,5 +1,5 @@
 //! The cases of the rows, and how each one is run.
-use crate::call::Call;
+use crate::answer::{Answer, Modes, refused_as};
 use crate::coder::{CoderCase, coder_holds};
 use crate::combination::stays_white;
 use crate::drawing::{drawing_holds, page_holds, white_holds};
@@ -22,24 +22,6 @@ use std::sync::ledger::Blank;
 pub struct Row {
     pub name: &'static str,
     pub cases: &'static [Case],
-}
-
-/// The modes that a case is run in.
-#[derive(Clone, Copy, Debug, PartialEq, Eq)]
-pub enum Modes {
-    Strict,
-    Lenient,
-    Both,
-}
-
-/// The expected result of a page.
-pub enum Answer {
-    /// It is drawn by exactly these calls.
-    Calls(&'static [Call]),
-    /// Its constructor returns this error.
-    Refused(DecodeError),
-    /// Decoding returns this error and makes no call.
-    Undrawn(DecodeError),
 }
 
 /// The fields of a segment header.
@@ -93,16 +75,6 @@ pub enum Case {
     Salvage(SalvageCase),
     /// Two patterns of 200 by 1, which the arithmetic encoder codes, are decoded.
     WidePatterns,
-}
-
-impl Modes {
-    pub fn has(self, strict: bool) -> bool {
-        match self {
-            Modes::Strict => strict,
-            Modes::Lenient => !strict,
-            Modes::Both => true,
-        }
-    }
 }
 
 /// Whether every case of a row holds. After each one, row 5's page must be drawn in the same context. The only error is
@@ -297,17 +269,6 @@ fn size_holds<A: Allocator + Clone>(
     };
     let sized = page.width() == width && page.height() == height;
     Ok(sized && page.number() == number && page.dimensions() == (width, height))
-}
-
-/// Whether this error was expected. An unexpected `OutOfMemory` is returned.
-pub fn refused_as(error: DecodeError, expected: Option<&DecodeError>) -> Result<bool> {
-    if expected == Some(&error) {
-        return Ok(true);
-    }
-    if error == DecodeError::OutOfMemory {
-        return Err(error);
-    }
-    Ok(false)
 }
 
 /// Whether the segment header in this text has these fields.

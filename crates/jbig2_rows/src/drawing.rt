@@ -1,7 +1,6 @@
 //! Checks the result of drawing a page.
+use crate::answer::{Answer, refused_as};
 use crate::call::{Call, WHITE};
-use crate::case::{Answer, refused_as};
-use crate::salvage::salvages;
 use crate::spelling::bytes_of;
 use crate::watcher::Watcher;
 use hayro_jbig2::{
@@ -49,6 +48,20 @@ pub fn page_holds<A: Allocator + Clone>(
     }
     // Where lenient reading draws a page, salvage draws the same.
     Ok(drawn && salvages(alloc, bytes, answer, context)?)
+}
+
+/// Whether an embedded page has this result in salvage.
+fn salvages<A: Allocator + Clone>(
+    alloc: &A,
+    bytes: &[u8],
+    answer: &Answer,
+    context: &mut DecoderContext<A>,
+) -> Result<bool> {
+    let page = match Page::salvaged_embedded(alloc.clone()?, bytes, None) {
+        Ok(page) => page,
+        Err(error) => return refused_as(error, None),
+    };
+    drawing_holds(&page, answer, context)
 }
 
 /// Whether decoding a page has this result, also where a Decoder refuses any one of its calls. The

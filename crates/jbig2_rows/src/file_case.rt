@@ -1,5 +1,5 @@
 //! The cases of files, of globals, and of decoders over a reader.
-use crate::case::{Answer, Modes, refused_as};
+use crate::answer::{Answer, Modes, refused_as};
 use crate::drawing::drawing_holds;
 use crate::errors::TOO_EARLY;
 use crate::spelling::bytes_of;

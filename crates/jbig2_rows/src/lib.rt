@@ -2,6 +2,7 @@
 //! the decoder with.
 #![tactic(auto)]
 
+pub mod answer;
 pub mod call;
 pub mod case;
 mod coder;

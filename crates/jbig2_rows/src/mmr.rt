@@ -1,7 +1,7 @@
 //! The cases of MMR data.
 ghost use Rattle.std.specs.Prelude.{◌≡◌};
 
-use crate::case::{Modes, refused_as};
+use crate::answer::{Modes, refused_as};
 use crate::spelling::bytes_of;
 use hayro_jbig2::Result;
 use hayro_jbig2::parts::bitmap::{Bitmap, Steps};

@@ -1,5 +1,5 @@
 //! The cases of salvage.
-use crate::case::{Answer, refused_as};
+use crate::answer::{Answer, refused_as};
 use crate::drawing::drawing_holds;
 use crate::file_case::{FilePage, all_pages_hold};
 use crate::spelling::bytes_of;
@@ -87,20 +87,6 @@ pub fn salvage_holds<A: Allocator + Clone>(
             file_holds(alloc, &bytes, pages, left_out, report, context)
         }
     }
-}
-
-/// Whether an embedded page has this result in salvage.
-pub fn salvages<A: Allocator + Clone>(
-    alloc: &A,
-    bytes: &[u8],
-    answer: &Answer,
-    context: &mut DecoderContext<A>,
-) -> Result<bool> {
-    let page = match Page::salvaged_embedded(alloc.clone()?, bytes, None) {
-        Ok(page) => page,
-        Err(error) => return refused_as(error, None),
-    };
-    drawing_holds(&page, answer, context)
 }
 
 fn is_reported(report: &Report, passed_over: &PassedOver, cut_off: Option<&CutOff>) -> bool {

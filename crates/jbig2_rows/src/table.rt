@@ -1,5 +1,5 @@
 //! The cases of the tables of prefix codes.
-use crate::case::refused_as;
+use crate::answer::refused_as;
 use crate::spelling::bytes_of;
 use hayro_jbig2::parts::huffman_table::{HuffmanTable, StandardHuffmanTables};
 use hayro_jbig2::parts::reader::Reader;

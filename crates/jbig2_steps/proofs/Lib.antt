@@ -1,1 +1,2 @@
+pub mod LaneCounts
 pub mod WorkLemmas

@@ -1,7 +1,7 @@
 -- The counts of steps before and after a call (our own rule; no part of the format). There is a number for each kind of
 -- step: loads of words, written words, decisions, run tests, groups of lanes, single pixels, and cleared words: those that
 -- a bitmap has when it is made, made anew or filled.
-use Rattle.std.specs.Prelude.{ℕ, ◌+◌}
+use Rattle.std.specs.Prelude.{◌≡◌, ℕ, ◌+◌}
 
 pub record Counts : Type 0 where
   pub loads : ℕ
@@ -26,3 +26,9 @@ words_copied n = words_written n n
 
 abbrev pub words_cleared : ℕ → Counts → Counts  -- adds this many cleared words
 words_cleared n c = record c { cleared = c.cleared + n }
+
+-- no group of lanes, no single pixel and no cleared word was counted
+pub record KeepsLanes (old new : Counts) : Type 0 where
+  pub groups : new.groups ≡ old.groups
+  pub pixels : new.pixels ≡ old.pixels
+  pub cleared : new.cleared ≡ old.cleared

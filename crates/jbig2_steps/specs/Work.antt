@@ -16,6 +16,10 @@ budget w = sum_of_counts w.steps + 32 * w.left
 abbrev pub PaidBut : {L : Type 0} → ℕ → Work L → Work L → Type 0
 PaidBut ahead old new = budget new ≤ budget old + ahead
 
+-- the same, and these counts leave room for `more`: those of a bitmap that was made before
+abbrev pub PaidBeside : {L : Type 0} → ℕ → ℕ → Work L → Work L → Type 0
+PaidBeside more ahead old new = budget new + more ≤ budget old + ahead
+
 abbrev pub Paid : {L : Type 0} → Work L → Work L → Type 0  -- all that was counted is paid for
 Paid old new = budget new ≤ budget old
 

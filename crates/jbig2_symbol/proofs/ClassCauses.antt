@@ -18,7 +18,7 @@ use Rattle.jbig2_base.proofs.Causes.{bytes-there, cause-bytes, cause-next, cause
 use Rattle.jbig2_mmr.specs.Causes.{BreaksMmr}
 use Rattle.jbig2_mmr.specs.T6.{mmr_rows}
 use Rattle.jbig2_mmr.proofs.Causes.{cause-mmr}
-use Rattle.jbig2_text.specs.TextCoding.{in_band}
+use Rattle.jbig2_coder.specs.Integers.{in_band}
 use Rattle.jbig2_symbol.specs.Causes.{BreaksCollectiveBitmap, BreaksSized}
 use Rattle.jbig2_symbol.specs.ClassCauses.{BreaksEmptyClass, BreaksHeightClass, BreaksTallClass, ClassCauses, ClassesHaveCauses, IsNoSize}
 use Rattle.jbig2_symbol.specs.HeightClasses.{empty_class, height_class, size_in_word}

@@ -17,7 +17,7 @@ use Rattle.jbig2_base.proofs.Causes.{cause-next, cause-refused}
 use Rattle.jbig2_coder.specs.PrefixCode.{Member, decoded_value}
 use Rattle.jbig2_coder.specs.Causes.{BreaksValueAt}
 use Rattle.jbig2_text.proofs.Causes.{no-value}
-use Rattle.jbig2_text.specs.TextCoding.{in_band}
+use Rattle.jbig2_coder.specs.Integers.{in_band}
 use Rattle.jbig2_symbol.specs.SymbolBitmaps.{instance_count, some_instances}
 use Rattle.jbig2_symbol.specs.Causes.{BreaksContexts, BreaksCount, BreaksTables, custom_count}
 use Rattle.jbig2_symbol.specs.ClassCauses.{BreaksExports, BreaksNextWidth, BreaksRunAfter, BreaksRunValue, BreaksWidthBy, ClassCauses, ClassesHaveCauses, IsNoSize, SymbolCauses, SymbolsHaveCauses}

@@ -6,7 +6,8 @@ use Rattle.jbig2_base.specs.Grid.{table, pixel_at}
 use Rattle.jbig2_base.specs.declared.error.DecodeError.{DecodeError}
 use Rattle.jbig2_coder.specs.Coder.{byte_at, byte_in, byte_in_if_empty, shift_left, renormd, initial_registers, likely_next, unlikely_next, choice, decision}
 use Rattle.jbig2_coder.specs.Encoder.{initial_coding, eight_bits_out, seven_bits_out, byte_out, shift_once, renorme, narrowed_likely, narrowed_unlikely, narrowed_interval, encoding, set_bits, flush_coder, is_full, with_marker, with_context, encode_from, encoded_bytes}
-use Rattle.jbig2_coder.specs.Integers.{integer, value_of_bits, next, read, read_more, ranges, are_next, next_range, signed_number, value_of, integer_by}
+use Rattle.jbig2_coder.specs.Integers.{integer, next, read, read_more, ranges, are_next, next_range, signed_number, value_of, integer_by}
+use Rattle.jbig2_base.specs.Bits.{value_of_bits}
 use Rattle.jbig2_coder.specs.PrefixCode.{is_crowded, weight}
 use Rattle.jbig2_coder.specs.QeTable.{rows, qe_row}
 use Rattle.jbig2_region.specs.Generic.{context_at}

@@ -8,7 +8,7 @@ use Rattle.jbig2_base.specs.Bits.{bit_number}
 use Rattle.jbig2_base.specs.declared.error.DecodeError.{DecodeError}
 use Rattle.jbig2_base.specs.declared.error.OverflowError.TheVariants.{BitmapDimension}
 use Rattle.jbig2_base.specs.declared.error.SymbolError.TheVariants.{Invalid, TooManySymbols, UnexpectedOob}
-use Rattle.jbig2_text.specs.TextCoding.{in_band}
+use Rattle.jbig2_coder.specs.Integers.{in_band}
 use Rattle.jbig2_symbol.specs.SymbolReading.{ClassReadings, SymbolInput, SymbolReadings}
 use Rattle.jbig2_base.specs.declared.error.DecodeError.TheVariants as errors
 

@@ -5,7 +5,7 @@
 use Rattle.std.specs.Prelude.{ℕ, ◌+◌, ◌*◌, ◌≤◌}
 use Rattle.jbig2_steps.specs.Work.{budget}
 use Rattle.jbig2_steps.specs.declared.work.Work.{Work}
-use Rattle.jbig2_text.specs.Paying.{number_steps}
+use Rattle.jbig2_coder.specs.Integers.{number_steps}
 
 -- From `before` symbols to `after` symbols, at most five numbers were read for each, and `more` besides. Everything
 -- else is paid for.

@@ -23,7 +23,8 @@ use Rattle.jbig2_region.specs.Templates.{template_pixels}
 use Rattle.jbig2_text.specs.Refining.{Refining}
 use Rattle.jbig2_text.specs.Text.{Readings, TextParams, some_symbol, symbol_of, text_region}
 use Rattle.jbig2_text.specs.TextCoding.{CodedState, PrefixedState, by_coder, by_prefix_codes}
-use Rattle.jbig2_text.specs.TextCoding.{in_band, next_id, prefixed_bits, TextTables}
+use Rattle.jbig2_text.specs.TextCoding.{next_id, prefixed_bits, TextTables}
+use Rattle.jbig2_coder.specs.Integers.{in_band}
 use Rattle.jbig2_text.specs.declared.header.ReferenceCorner.TheVariants.{TopLeft}
 use Rattle.jbig2_text.specs.declared.header.TextRegionFlags.{TextRegionFlags}
 use Rattle.jbig2_symbol.specs.SymbolHeader.{SymbolHeader}

@@ -17,7 +17,7 @@ use Rattle.jbig2_symbol.specs.SymbolCoding.{classes_by_coder, classes_by_prefix_
 use Rattle.jbig2_symbol.specs.SymbolHeader.{SymbolHeader}
 use Rattle.jbig2_symbol.specs.SymbolReading.{BitmapContexts, ClassReadings, SymbolContexts, SymbolInput, SymbolState}
 use Rattle.jbig2_symbol.specs.SymbolReading.{first_contexts, bitmap_contexts, symbol_tables, not_negative}
-use Rattle.jbig2_text.specs.TextCoding.{in_band}
+use Rattle.jbig2_coder.specs.Integers.{in_band}
 
 -- ---- exports (6.5.10): runs of symbols in turn, left out and exported, over the symbols that the dictionary refers to
 -- and then the new ones

@@ -4,7 +4,7 @@ ghost use Rattle.jbig2_base.specs.Results.{Returns, Gives};
 ghost use Rattle.jbig2_text.specs.TextCoding.{CodedState};
 ghost use Rattle.jbig2_text.specs.inner.TextViews.{params_view};
 ghost use Rattle.jbig2_steps.specs.Work.{Paid, PaidBut};
-ghost use Rattle.jbig2_text.specs.Paying.{number_steps};
+ghost use Rattle.jbig2_coder.specs.Integers.{number_steps};
 ghost use Rattle.jbig2_symbol.specs.SymbolBitmaps.{coded_aggregate, coded_instances, coded_symbol};
 ghost use Rattle.jbig2_symbol.specs.Causes.{BreaksCodedAggregate};
 ghost use Rattle.jbig2_symbol.specs.SymbolCoding.{coded_bitmap, coder_start};

@@ -4,7 +4,7 @@ ghost use Rattle.jbig2_base.specs.Results.{Returns, Gives};
 ghost use Rattle.jbig2_base.specs.Grid.{blank};
 ghost use Rattle.jbig2_base.specs.Causes.{HasCauseOrNoMemory};
 ghost use Rattle.jbig2_steps.specs.Work.{Paid, PaidBut};
-ghost use Rattle.jbig2_text.specs.Paying.{number_steps};
+ghost use Rattle.jbig2_coder.specs.Integers.{number_steps};
 ghost use Rattle.jbig2_symbol.specs.SymbolHeader.{max_new_symbols};
 ghost use Rattle.jbig2_symbol.specs.ClassCauses.{BreaksExports, ClassesHaveCauses};
 ghost use Rattle.jbig2_symbol.specs.Symbols.{export_runs, exported_grids, exports, next_run};

@@ -1,6 +1,6 @@
 //! What is needed to decode a symbol dictionary (T.88, 6.5).
 ghost use Rattle.std.specs.Prelude.{◌≤◌, length};
-ghost use Rattle.jbig2_text.specs.SymbolCodes.{max_symbols};
+ghost use Rattle.jbig2_text.specs.Text.{max_symbols};
 ghost use Rattle.jbig2_symbol.specs.SymbolHeader.{max_new_symbols};
 
 use crate::header::SymbolDictionaryHeader;

@@ -6,7 +6,7 @@ ghost use Rattle.jbig2_base.specs.Bits.{Place};
 ghost use Rattle.jbig2_text.specs.TextCoding.{by_prefix_codes};
 ghost use Rattle.jbig2_text.specs.inner.TextViews as texts;
 ghost use Rattle.jbig2_steps.specs.Work.{Paid, PaidBut};
-ghost use Rattle.jbig2_text.specs.Paying.{number_steps};
+ghost use Rattle.jbig2_coder.specs.Integers.{number_steps};
 ghost use Rattle.jbig2_symbol.specs.Causes.{BreaksCollectiveBitmap, BreaksPrefixedAggregate};
 ghost use Rattle.jbig2_symbol.specs.SymbolBitmaps.{by_instances, collective_bitmap, plain_id, prefixed_aggregate, prefixed_instances};
 ghost use Rattle.jbig2_symbol.specs.SymbolCoding.{collective_class, prefix_codes_start};

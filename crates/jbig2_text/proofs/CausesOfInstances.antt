@@ -11,8 +11,7 @@ use Rattle.jbig2_base.specs.declared.error.DecodeError.TheVariants.{Overflow, Sy
 use Rattle.jbig2_base.specs.declared.error.OverflowError.TheVariants.{BitmapDimension, PlacementCoordinate, ReferenceOffset}
 use Rattle.jbig2_base.specs.declared.error.SymbolError.TheVariants.{OutOfRange}
 use Rattle.jbig2_base.proofs.Causes.{cause-next, cause-refused}
-use Rattle.jbig2_base.specs.Causes.{After}
-use Rattle.jbig2_coder.specs.Causes.{LeavesWord}
+use Rattle.jbig2_base.specs.Causes.{After, LeavesWord}
 use Rattle.jbig2_text.specs.Causes.{APlaceLeaves, ARefinementIsRefused, BreaksInstance, ReadingsHaveCauses, IsNoSide, NamesNone, ReadingCauses}
 use Rattle.jbig2_text.specs.Refining.{Refining}
 use Rattle.jbig2_text.specs.Text.{TextState, Readings, TextParams, coordinate, edge, far_end, instance_symbol, is_bottom, is_last_along_s, is_right, plain_symbol, reference_offset, refined_outline, refined_symbol, refinement_deltas, side_of, some_symbol, symbol_of, symbol_placed, t_in_strip, with_instance, with_symbol}

@@ -23,7 +23,8 @@ use Rattle.jbig2_text.specs.Refining.{Refining}
 use Rattle.jbig2_text.specs.Text.{TextState, Readings, TextParams, after_instances, coordinate, next_cursor, strip_start, strip_delta, text_region, with_instance}
 use Rattle.jbig2_text.specs.declared.cursor.Cursor.{Cursor}
 use Rattle.jbig2_text.specs.inner.FunctionResults.{end_of_strip, reaching, some_strips, strips, table_of_size}
-use Rattle.jbig2_text.specs.TextCoding.{CodedState, PrefixedState, by_coder, by_prefix_codes, in_band, next_integer, number_by_coder, prefixed_refined, prefixed_value, sized_bytes}
+use Rattle.jbig2_text.specs.TextCoding.{CodedState, PrefixedState, by_coder, by_prefix_codes, next_integer, number_by_coder, prefixed_refined, prefixed_value, sized_bytes}
+use Rattle.jbig2_coder.specs.Integers.{in_band}
 use Rattle.jbig2_text.specs.TextHeader.{ArithmeticCoding, HuffmanCoding, NumberCoding, TextHeader}
 use Rattle.jbig2_text.specs.TextRegion.{blank_region, coder_of, one_of_three, one_of_two, prefix_codes_of, refining_of, region_by, region_from, text_result, text_params, text_tables}
 use Rattle.jbig2_text.proofs.Causes.{cause-bits, cause-value, no-value}

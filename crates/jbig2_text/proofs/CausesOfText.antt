@@ -6,9 +6,8 @@ use Rattle.jbig2_base.specs.declared.error.DecodeError.{DecodeError}
 use Rattle.jbig2_base.specs.declared.error.DecodeError.TheVariants.{Symbol}
 use Rattle.jbig2_base.specs.declared.error.SymbolError.TheVariants.{InvalidStripDelta}
 use Rattle.jbig2_base.proofs.Causes.{cause-next}
-use Rattle.jbig2_base.specs.Causes.{After}
+use Rattle.jbig2_base.specs.Causes.{After, LeavesWord}
 use Rattle.jbig2_base.specs.Results.{word_or}
-use Rattle.jbig2_coder.specs.Causes.{LeavesWord}
 use Rattle.jbig2_text.specs.Causes.{BreaksMoveBy, BreaksStrip, ReadingsHaveCauses, ReadingCauses}
 use Rattle.jbig2_text.specs.Text.{Readings, coordinate, next_cursor, with_ids, strip_start, strip_delta}
 use Rattle.jbig2_text.specs.declared.cursor.Cursor.{Cursor}

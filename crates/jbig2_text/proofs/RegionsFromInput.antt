@@ -12,7 +12,8 @@ use Rattle.jbig2_region.specs.Refinement.{Reference}
 use Rattle.jbig2_text.specs.Refining.{Refining}
 use Rattle.jbig2_text.specs.SymbolCodes.{next_runcode, with_last_repeated, run_at, runcodes_at, runs_at, short_lengths, symbol_codes_from, symbol_lengths_at}
 use Rattle.jbig2_text.specs.Text.{Readings}
-use Rattle.jbig2_text.specs.TextCoding.{CodedState, PrefixedState, by_coder, by_prefix_codes, in_band, number_by_coder, prefixed_bits, prefixed_refined, prefixed_value, sized_bytes}
+use Rattle.jbig2_text.specs.TextCoding.{CodedState, PrefixedState, by_coder, by_prefix_codes, number_by_coder, prefixed_bits, prefixed_refined, prefixed_value, sized_bytes}
+use Rattle.jbig2_coder.specs.Integers.{in_band}
 use Rattle.jbig2_text.specs.TextHeader.{ArithmeticCoding, HuffmanCoding, NumberCoding, TextHeader, coding_at, table_numbers_at, text_fields_at, text_flags_at, text_header_at}
 use Rattle.jbig2_text.specs.TextRegion.{one_of_three, one_of_two, region_by, region_from, text_result, text_decoded, text_tables}
 use Rattle.jbig2_text.specs.declared.header.TextRegionHuffmanFlags.{TextRegionHuffmanFlags}

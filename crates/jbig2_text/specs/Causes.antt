@@ -6,7 +6,7 @@ use Rattle.std.specs.Prelude.{Ok, IfErr, ℤ, pos, negsuc, ◌≤◌, ◌-◌, �
 use Rattle.std.specs.Prelude.{Option, Some, None, ◌≢◌, nat_lt}
 use Rattle.std.specs.Int.{w8, w16, int_shr}
 use Rattle.jbig2_base.specs.Bits.{Place, bits_left, start_of, byte_boundary}
-use Rattle.jbig2_base.specs.Causes.{After, number_in}
+use Rattle.jbig2_base.specs.Causes.{After, number_in, LeavesWord}
 use Rattle.jbig2_base.specs.declared.error.DecodeError.{DecodeError}
 use Rattle.jbig2_base.specs.declared.error.DecodeError.TheVariants.{Huffman, Parse, Region, Unsupported, Overflow}
 use Rattle.jbig2_base.specs.declared.error.DecodeError.TheVariants.{Symbol}
@@ -18,7 +18,7 @@ use Rattle.jbig2_base.specs.declared.error.OverflowError.TheVariants.{ReferenceO
 use Rattle.jbig2_base.specs.declared.error.SymbolError.TheVariants.{InvalidStripDelta, OutOfRange, TooManyInstances}
 use Rattle.jbig2_base.specs.declared.error.SymbolError.TheVariants.{UnexpectedOob}
 use Rattle.jbig2_base.specs.Grid.{Grid, max_side}
-use Rattle.jbig2_coder.specs.Causes.{AreCrowded, BreaksNumberAt, BreaksValueAt, LeavesWord}
+use Rattle.jbig2_coder.specs.Causes.{AreCrowded, BreaksNumberAt, BreaksValueAt}
 use Rattle.jbig2_coder.specs.PrefixCode.{Member, value_at}
 use Rattle.jbig2_coder.specs.declared.integer_procedures.IntegerProcedure.{IntegerProcedure}
 use Rattle.jbig2_coder.specs.declared.integer_procedures.IntegerProcedure.TheVariants.{Iadt, Iafs, Iait, Iardh, Iardw}

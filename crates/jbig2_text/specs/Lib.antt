@@ -1,5 +1,4 @@
 pub mod Causes
-pub mod Paying
 pub mod Refining
 pub mod SymbolCodes
 pub mod Text

@@ -12,9 +12,6 @@ use Rattle.jbig2_coder.specs.PrefixCode.{Member, table_of, value_at}
 use Rattle.jbig2_coder.specs.Tables.{line}
 use Rattle.jbig2_coder.specs.declared.huffman_table.line.TableLine.{TableLine}
 
-abbrev pub max_symbols : ℕ  -- how many symbols ids may name: those of other dictionaries, and new ones (our own rule)
-max_symbols = 2097152
-
 abbrev pub invalid_code : DecodeError
 invalid_code = Huffman InvalidCode
 

@@ -22,6 +22,9 @@ use Rattle.jbig2_text.specs.declared.header.TextRegionFlags.{TextRegionFlags}
 use Rattle.jbig2_text.specs.declared.refined.Outline.{Outline}
 use Rattle.jbig2_text.specs.declared.refined.RefinementDeltas.{RefinementDeltas}
 
+abbrev pub max_symbols : ℕ  -- how many symbols ids may name: those of other dictionaries, and new ones (our own rule)
+max_symbols = 2097152
+
 -- What is needed to read the instances (Table 9): flags, SBSYMS, SBNUMINSTANCES, and the length of the segment's data.
 pub record TextParams : Type 0 where
   pub flags : TextRegionFlags

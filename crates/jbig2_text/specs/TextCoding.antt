@@ -1,15 +1,15 @@
 -- The two ways in which the numbers of a text region are coded (T.88, 6.4.6 to 6.4.11): by the arithmetic coder with
 -- its integer procedures, and by prefix codes. Symbol dictionaries read with the same states.
 use Rattle.std.specs.Prelude.{ℕ, ◌%◌, ◌^◌, ◌==◌, true, not, ℤ, pos, negsuc, nat_abs, List, Option, Result, Ok, Err, replicate}
-use Rattle.jbig2_base.specs.Results.{◌>>=◌, some_or}
-use Rattle.jbig2_base.specs.Bits.{Place, byte_boundary, bits_left, bits_on, start_of}
+use Rattle.jbig2_base.specs.Results.{◌>>=◌}
+use Rattle.jbig2_base.specs.Bits.{Place, byte_boundary, bits_left, bits_on, start_of, value_of_bits}
 use Rattle.jbig2_base.specs.Fields.{bits_at, bytes_at, end_of_bytes}
 use Rattle.jbig2_base.specs.Grid.{Grid}
 use Rattle.jbig2_base.specs.declared.error.DecodeError.{DecodeError}
 use Rattle.jbig2_base.specs.declared.error.DecodeError.TheVariants.{Symbol}
 use Rattle.jbig2_base.specs.declared.error.SymbolError.TheVariants.{UnexpectedOob}
 use Rattle.jbig2_coder.specs.Coder.{Coder, fresh, initial_registers, is_within}
-use Rattle.jbig2_coder.specs.Integers.{Ids, id, value_of_bits, Procedures, integer_by, fresh_procedures}
+use Rattle.jbig2_coder.specs.Integers.{Ids, id, Procedures, integer_by, fresh_procedures}
 use Rattle.jbig2_coder.specs.PrefixCode.{Member, decoded_value, value_at}
 use Rattle.jbig2_coder.specs.declared.integer_procedures.IntegerProcedure.{IntegerProcedure}
 use Rattle.jbig2_coder.specs.declared.integer_procedures.IntegerProcedure.TheVariants.{Iads, Iadt, Iafs, Iait, Iardh}
@@ -44,10 +44,6 @@ next_id s =
     let r = id s.coder.bytes s.coder.registers s.ids in
     let after : Coder = record s.coder { registers = r.registers } in
     (pos (value_of_bits r.bits), record s { coder = after; ids = record s.ids { contexts = r.contexts } })
-
--- a number, or this error where it is out of band
-abbrev pub in_band : DecodeError → Option ℤ → Result ℤ DecodeError
-in_band e n = some_or e n
 
 abbrev pub number_by_coder : IntegerProcedure → CodedState → Result (ℤ × CodedState) DecodeError
 number_by_coder procedure s =

@@ -2,8 +2,8 @@
 ghost use Rattle.std.specs.Prelude.{◌≡◌, ◌≤◌, Ok};
 ghost use Rattle.jbig2_base.specs.Results.{Returns, Gives};
 ghost use Rattle.jbig2_steps.specs.Work.{PaidBut};
-ghost use Rattle.jbig2_text.specs.Paying.{number_steps};
-ghost use Rattle.jbig2_text.specs.TextCoding.{number_by_coder, coded_start, in_band, next_id, next_integer};
+ghost use Rattle.jbig2_coder.specs.Integers.{number_steps, in_band};
+ghost use Rattle.jbig2_text.specs.TextCoding.{number_by_coder, coded_start, next_id, next_integer};
 ghost use Rattle.jbig2_text.specs.inner.TextViews.{coded_view};
 
 use crate::readings::ReadInstances;
@@ -13,7 +13,7 @@ use jbig2_base::error::{DecodeError, Result, SymbolError};
 use jbig2_coder::arithmetic_decoder::ArithmeticDecoder;
 use jbig2_coder::integer_procedures::{IntegerProcedure, IntegerProcedures};
 use jbig2_coder::symbol_id_decoder::SymbolIdDecoder;
-use jbig2_region::generic_refinement::ReferenceBitmap;
+use jbig2_region::reference_bitmap::ReferenceBitmap;
 use jbig2_steps::Work;
 use std::alloc::Allocator;
 use std::sync::ledger::Ledger;

@@ -3,7 +3,7 @@ ghost use Rattle.std.specs.Prelude.{◌≡◌, ◌≤◌, ◌%◌, ◌^◌, IfOk
 ghost use Rattle.jbig2_base.specs.Bits.{start_of};
 ghost use Rattle.jbig2_base.specs.Results.{Returns, Gives};
 ghost use Rattle.jbig2_region.specs.inner.PixelArrays.{pixel_array};
-ghost use Rattle.jbig2_text.specs.SymbolCodes.{max_symbols};
+ghost use Rattle.jbig2_text.specs.Text.{max_symbols};
 ghost use Rattle.jbig2_text.specs.declared.header.TextFields.{TextFields};
 ghost use Rattle.jbig2_text.specs.TextHeader.{corner_of, signed_5, text_flags_at, table_numbers, table_numbers_at, text_fields_at, coding_at, text_header_at};
 ghost use Rattle.jbig2_text.specs.inner.TextViews.{coding_view, header_view, text_pixels};

@@ -3,7 +3,7 @@ ghost use Rattle.std.specs.Prelude.{◌≡◌, ◌+◌, ◌*◌, ◌≤◌, nat_
 ghost use Rattle.jbig2_base.specs.Results.{Gives};
 ghost use Rattle.jbig2_base.specs.Grid.{blank};
 ghost use Rattle.jbig2_steps.specs.Work.{Paid, PaidBut, paid_words};
-ghost use Rattle.jbig2_text.specs.Paying.{number_steps};
+ghost use Rattle.jbig2_coder.specs.Integers.{number_steps};
 ghost use Rattle.jbig2_text.specs.Text.{with_symbol, with_instance, after_instances, text_region};
 ghost use Rattle.jbig2_text.specs.inner.FunctionResults.{KeepsSize, reaching, some_strips, strips, with_last, with_next_instance};
 ghost use Rattle.jbig2_text.specs.inner.TextViews.{params_view, symbol_view};

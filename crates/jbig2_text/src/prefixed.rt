@@ -13,7 +13,7 @@ use jbig2_base::field::{bits_field, bytes_field};
 use jbig2_base::reader::Reader;
 use jbig2_coder::arithmetic_decoder::ArithmeticDecoder;
 use jbig2_coder::huffman_table::HuffmanTable;
-use jbig2_region::generic_refinement::ReferenceBitmap;
+use jbig2_region::reference_bitmap::ReferenceBitmap;
 use jbig2_steps::Work;
 use std::alloc::Allocator;
 use std::sync::ledger::Ledger;

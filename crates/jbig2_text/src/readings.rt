@@ -3,14 +3,14 @@ ghost use Rattle.std.specs.Prelude.{◌≡◌, ◌*◌, ◌≤◌, false};
 ghost use Rattle.jbig2_base.specs.Results.{Returns};
 ghost use Rattle.jbig2_base.specs.Grid.{blank, max_side};
 ghost use Rattle.jbig2_region.specs.inner.ReferenceViews.{reference_view};
-ghost use Rattle.jbig2_steps.specs.Work.{PaidBut, paid_words, price_of_bitmap};
-ghost use Rattle.jbig2_text.specs.Paying.{PaidBeside, number_steps};
+ghost use Rattle.jbig2_steps.specs.Work.{PaidBeside, PaidBut, paid_words, price_of_bitmap};
+ghost use Rattle.jbig2_coder.specs.Integers.{number_steps};
 ghost use Rattle.jbig2_text.specs.Text.{Readings};
 
 use crate::refining::Refining;
 use jbig2_base::bitmap::Bitmap;
 use jbig2_base::error::Result;
-use jbig2_region::generic_refinement::ReferenceBitmap;
+use jbig2_region::reference_bitmap::ReferenceBitmap;
 use jbig2_steps::Work;
 use std::alloc::Allocator;
 use std::sync::ledger::Ledger;

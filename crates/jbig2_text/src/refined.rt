@@ -1,7 +1,7 @@
 //! Symbols that are refined from others while the instances are read (T.88, 6.4.11).
 ghost use Rattle.jbig2_base.specs.Results.{Returns, Gives};
 ghost use Rattle.jbig2_steps.specs.Work.{PaidBut};
-ghost use Rattle.jbig2_text.specs.Paying.{number_steps};
+ghost use Rattle.jbig2_coder.specs.Integers.{number_steps};
 ghost use Rattle.jbig2_text.specs.Text.{refinement_deltas, refined_outline, refined_symbol};
 ghost use Rattle.jbig2_text.specs.inner.TextViews.{list_view};
 
@@ -12,7 +12,7 @@ use crate::symbol_bitmap::new_symbol;
 use crate::symbol_list::SymbolList;
 use jbig2_base::bitmap::Bitmap;
 use jbig2_base::error::{Result, SymbolError};
-use jbig2_region::generic_refinement::ReferenceBitmap;
+use jbig2_region::reference_bitmap::ReferenceBitmap;
 use jbig2_steps::Work;
 use std::alloc::Allocator;
 use std::sync::ledger::Ledger;

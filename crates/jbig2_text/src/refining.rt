@@ -5,8 +5,7 @@ ghost use Rattle.jbig2_base.specs.Grid.{blank, max_side};
 ghost use Rattle.jbig2_region.specs.RefinementTemplates.{refinement_bits};
 ghost use Rattle.jbig2_region.specs.inner.PixelArrays.{two_pixels, pixel_array};
 ghost use Rattle.jbig2_region.specs.inner.ReferenceViews.{reference_view};
-ghost use Rattle.jbig2_steps.specs.Work.{paid_words, price_of_bitmap};
-ghost use Rattle.jbig2_text.specs.Paying.{PaidBeside};
+ghost use Rattle.jbig2_steps.specs.Work.{PaidBeside, paid_words, price_of_bitmap};
 ghost use Rattle.jbig2_text.specs.Refining.{refined_with};
 ghost use Rattle.jbig2_text.specs.inner.TextViews.{some_pixels};
 ghost use Rattle.jbig2_text.specs.inner.FunctionResults.{fresh_refining, refining_by};
@@ -16,7 +15,8 @@ use jbig2_base::error::Result;
 use jbig2_coder::arithmetic_decoder::{
     ArithmeticDecoder, ArithmeticDecoderContext, fresh_contexts,
 };
-use jbig2_region::generic_refinement::{ReferenceBitmap, decode_bitmap};
+use jbig2_region::generic_refinement::decode_bitmap;
+use jbig2_region::reference_bitmap::ReferenceBitmap;
 use jbig2_region::template::{AdaptiveTemplatePixel, RefinementTemplate};
 use jbig2_steps::Work;
 use std::alloc::Allocator;

@@ -2,7 +2,7 @@
 ghost use Rattle.std.specs.Prelude.{◌≡◌, ◌≤◌};
 ghost use Rattle.jbig2_base.specs.Results.{Returns};
 ghost use Rattle.jbig2_steps.specs.Work.{PaidBut};
-ghost use Rattle.jbig2_text.specs.Paying.{number_steps};
+ghost use Rattle.jbig2_coder.specs.Integers.{number_steps};
 ghost use Rattle.jbig2_text.specs.Text.{strip_delta, strip_start, with_ids, next_cursor, t_in_strip};
 ghost use Rattle.jbig2_text.specs.inner.FunctionResults.{end_of_strip};
 

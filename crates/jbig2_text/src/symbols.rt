@@ -2,7 +2,7 @@
 ghost use Rattle.std.specs.Prelude.{◌≡◌, option_map};
 ghost use Rattle.jbig2_base.specs.Results.{Returns, Gives};
 ghost use Rattle.jbig2_steps.specs.Work.{PaidBut};
-ghost use Rattle.jbig2_text.specs.Paying.{number_steps};
+ghost use Rattle.jbig2_coder.specs.Integers.{number_steps};
 ghost use Rattle.jbig2_text.specs.Text.{instance_symbol, plain_symbol, symbol_of};
 ghost use Rattle.jbig2_text.specs.inner.FunctionResults.{refinement_flag};
 ghost use Rattle.jbig2_text.specs.inner.TextViews.{list_view, params_view, symbol_view};

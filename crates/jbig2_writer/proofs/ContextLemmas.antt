@@ -6,7 +6,8 @@ use Rattle.std.proofs.lemmas.Int.{ints}
 use Rattle.std.proofs.lemmas.Nat.{mul-le}
 use Rattle.jbig2_base.specs.Grid.{Grid, grid_of, pixel, pixel_at}
 use Rattle.jbig2_base.proofs.GridLemmas.{pixel_at-below, pixel_at-grid_of, pixel_at-right}
-use Rattle.jbig2_region.specs.Generic.{context_at, number_of, region_pixel}
+use Rattle.jbig2_region.specs.Generic.{context_at, region_pixel}
+use Rattle.jbig2_base.specs.Bits.{number_of}
 use Rattle.jbig2_region.specs.Raster.{Coding, so_far}
 use Rattle.jbig2_region.specs.declared.template.AdaptiveTemplatePixel.{AdaptiveTemplatePixel}
 use Rattle.jbig2_region.specs.Templates.{is_earlier}

@@ -19,7 +19,8 @@ use Rattle.jbig2_inverses.specs.RegionWriter.{row_above, same_rows}
 use Rattle.jbig2_region.specs.declared.template.neighbours.Neighbours.{Neighbours}
 use Rattle.jbig2_writer.specs.declared.settings.ArithmeticCoding.{ArithmeticCoding}
 use Rattle.jbig2_writer.specs.inner.Rows.{decisions_of_pixels, places, predicted_before, decisions_of_row, decisions_of_rows, typical_row}
-use Rattle.jbig2_writer.specs.inner.Windows.{CodesOn, IsNarrow, neighbour_pixels}
+use Rattle.jbig2_writer.specs.inner.Windows.{CodesOn, IsNarrow}
+use Rattle.jbig2_region.specs.inner.Neighbours.{nominal_pixels}
 use Rattle.jbig2_writer.proofs.WindowLemmas.{same-words}
 
 -- ---- typical rows
@@ -104,13 +105,13 @@ goes-further s t u before middle after e goes codes is = λ list has.
     subst (λ (all : List Entry). HasCoded u all) (append_assoc list middle (e ∷ []) ∙ ap (λ (more : List Entry). list ++ more) (sym is)) (codes (list ++ middle) (goes list has))
 
 pub group-more : (s t u : CodingInContexts) (n : Neighbours) (g : Grid) (x y offset k : ℕ) (b : Bool)
-    → CodesOn s t (decisions_of_pixels (neighbour_pixels n) g y x) (decisions_of_pixels (neighbour_pixels n) g y (x + offset)) → Codes t u ((k, b) ∷ [])
-    → k ≡ context_at (neighbour_pixels n) g (x + offset) y → b ≡ pixel_at g (x + offset) y
-    → CodesOn s u (decisions_of_pixels (neighbour_pixels n) g y x) (decisions_of_pixels (neighbour_pixels n) g y (x + (offset + 1)))
+    → CodesOn s t (decisions_of_pixels (nominal_pixels n) g y x) (decisions_of_pixels (nominal_pixels n) g y (x + offset)) → Codes t u ((k, b) ∷ [])
+    → k ≡ context_at (nominal_pixels n) g (x + offset) y → b ≡ pixel_at g (x + offset) y
+    → CodesOn s u (decisions_of_pixels (nominal_pixels n) g y x) (decisions_of_pixels (nominal_pixels n) g y (x + (offset + 1)))
 unfolding decisions_of_pixels
 group-more s t u n g x y offset k b goes codes is_k is_b =
     let next : x + (offset + 1) ≡ suc (x + offset) = omega arith in
-    let template : List AdaptiveTemplatePixel = neighbour_pixels n in
+    let template : List AdaptiveTemplatePixel = nominal_pixels n in
     goes-further s t u (decisions_of_pixels template g y x) (decisions_of_pixels template g y (x + offset)) (decisions_of_pixels template g y (x + (offset + 1))) (k, b) goes codes
     (ap (λ (m : ℕ). decisions_of_pixels template g y m) next ∙ (λ i. decisions_of_pixels template g y (x + offset) ++ (sym is_k i, sym is_b i) ∷ []))
 
@@ -134,7 +135,7 @@ near Template1 = record { left = omega arith; above_reach = omega arith; above_c
 near Template2 = record { left = omega arith; above_reach = omega arith; above_count = omega arith; top_reach = omega arith; top_count = omega arith; few = omega arith }
 near Template3 = record { left = omega arith; above_reach = omega arith; above_count = omega arith; top_reach = omega arith; top_count = omega arith; few = omega arith }
 
-places-are : (template : Template) → neighbour_pixels (nominal_neighbours template) ≡ places template
+places-are : (template : Template) → nominal_pixels (nominal_neighbours template) ≡ places template
 places-are Template0 = refl
 places-are Template1 = refl
 places-are Template2 = refl
@@ -157,13 +158,13 @@ changes false false = refl
 
 -- the pixels of a row, in the places of its template
 at-places : (s t : CodingInContexts) (st : ArithmeticCoding) (g : Grid) (y : ℕ) (n : Neighbours) → n ≡ nominal_neighbours st.template
-    → Codes s t (decisions_of_pixels (neighbour_pixels n) g y g.width) → Codes s t (decisions_of_pixels (places st.template) g y g.width)
+    → Codes s t (decisions_of_pixels (nominal_pixels n) g y g.width) → Codes s t (decisions_of_pixels (places st.template) g y g.width)
 at-places s t st g y n is_n codes =
-    subst (λ (template : List AdaptiveTemplatePixel). Codes s t (decisions_of_pixels template g y g.width)) (ap neighbour_pixels is_n ∙ places-are st.template) codes
+    subst (λ (template : List AdaptiveTemplatePixel). Codes s t (decisions_of_pixels template g y g.width)) (ap nominal_pixels is_n ∙ places-are st.template) codes
 
 -- a row that takes no decision SLTP
 pub row-uncoded : (s t : CodingInContexts) (st : ArithmeticCoding) (g : Grid) (y : ℕ) (p : Bool) (n : Neighbours) → st.typical ≡ false → n ≡ nominal_neighbours st.template
-    → Codes s t (decisions_of_pixels (neighbour_pixels n) g y g.width) → Codes s t (decisions_of_row st g y p)
+    → Codes s t (decisions_of_pixels (nominal_pixels n) g y g.width) → Codes s t (decisions_of_row st g y p)
 row-uncoded s t st g y p n e is_n codes = subst (λ (more : List Entry). Codes s t more) (sym (row-plain st g y p e)) (at-places s t st g y n is_n codes)
 
 -- the decision SLTP
@@ -179,7 +180,7 @@ row-predicted s t st g y k p same e is_same typical is_k codes =
 -- a row that is not typical
 pub row-read : (s t u : CodingInContexts) (st : ArithmeticCoding) (g : Grid) (y k : ℕ) (p same : Bool) (n : Neighbours) → st.typical ≡ true
     → same ≡ same_rows g.width (λ x. pixel_at g x y) (row_above (pixel_at g) y) → same ≡ false → k ≡ row_context st.template → n ≡ nominal_neighbours st.template
-    → Codes s t ((k, not (beq same p)) ∷ []) → Codes t u (decisions_of_pixels (neighbour_pixels n) g y g.width) → Codes s u (decisions_of_row st g y p)
+    → Codes s t ((k, not (beq same p)) ∷ []) → Codes t u (decisions_of_pixels (nominal_pixels n) g y g.width) → Codes s u (decisions_of_row st g y p)
 row-read s t u st g y k p same n e is_same other is_k is_n opens codes =
     let first : Entry = (row_context st.template, differ false p) in
     let pixels : List Entry = decisions_of_pixels (places st.template) g y g.width in

@@ -7,13 +7,13 @@ use Rattle.jbig2_base.specs.Bits.{bit, bit_number}
 use Rattle.jbig2_base.specs.Grid.{Grid, pixel, pixel_at}
 use Rattle.jbig2_base.proofs.BitLemmas.{bit-shr, bit_number-bit}
 use Rattle.jbig2_region.specs.Generic.{context_at}
-use Rattle.jbig2_region.specs.inner.Neighbours.{side_by_side}
+use Rattle.jbig2_region.specs.inner.Neighbours.{side_by_side, nominal_pixels}
 use Rattle.jbig2_region.specs.declared.template.neighbours.Stretch.{Stretch}
 use Rattle.jbig2_region.proofs.ContextBits.{context-append, joined-lt, length-side, lt-few, pow-few, side-context}
 use Rattle.jbig2_region.proofs.WindowLemmas.{pixel-inside, stretch-context}
 use Rattle.jbig2_region.specs.declared.template.neighbours.Neighbours.{Neighbours}
 use Rattle.jbig2_writer.specs.declared.windows.Windows.{Windows}
-use Rattle.jbig2_writer.specs.inner.Windows.{IsNarrow, AreWindows, neighbour_pixels}
+use Rattle.jbig2_writer.specs.inner.Windows.{IsNarrow, AreWindows}
 
 module _ (n : Neighbours) (near : IsNarrow n) where
   module _ (g : Grid) (x y offset : ℕ) (w : Windows) (within : offset < 32) (shows : AreWindows g x y w) where
@@ -40,7 +40,7 @@ module _ (n : Neighbours) (near : IsNarrow n) where
     -- the number that the code makes of the three parts
     pub context-is : (left above top : ℕ) → left ≡ w.row / 2 ^ (56 - offset) % 2 ^ n.left → above ≡ w.above / 2 ^ (55 - offset - n.above.reach) % 2 ^ n.above.count
         → top ≡ w.top / 2 ^ (55 - offset - n.top.reach) % 2 ^ n.top.count
-        → left + (above + top * (1 * 2 ^ n.above.count % 2 ^ 32)) * (1 * 2 ^ n.left % 2 ^ 32) ≡ context_at (neighbour_pixels n) g (x + offset) y
+        → left + (above + top * (1 * 2 ^ n.above.count % 2 ^ 32)) * (1 * 2 ^ n.left % 2 ^ 32) ≡ context_at (nominal_pixels n) g (x + offset) y
     context-is left above top is_left is_above is_top =
         rw (pow-few n.above.count (omega (arith, near.above_count)), pow-few n.left (omega (arith, near.left)), is_left, is_above, is_top, left-is, above-is, top-is)
         (sym (

@@ -5,7 +5,8 @@ ghost use Rattle.jbig2_base.specs.Bits.{bit};
 ghost use Rattle.jbig2_coder.specs.Encoder.{Codes, encoded_bytes};
 ghost use Rattle.jbig2_inverses.specs.RegionWriter.{row_above, same_rows};
 ghost use Rattle.jbig2_writer.specs.inner.Rows.{decisions_of_pixels, decisions_of_row, decisions_of_rows, typical_row};
-ghost use Rattle.jbig2_writer.specs.inner.Windows.{CodesGroup, IsNarrow, neighbour_pixels};
+ghost use Rattle.jbig2_writer.specs.inner.Windows.{CodesGroup, IsNarrow};
+ghost use Rattle.jbig2_region.specs.inner.Neighbours.{nominal_pixels};
 
 use crate::settings::ArithmeticCoding;
 use crate::windows::{Windows, windows_at};
@@ -108,7 +109,7 @@ fn push_pixels<A: Allocator + Clone, B: Allocator, L: Ledger>(
     requires near { IsNarrow neighbours }
     requires columns { bitmap.now.width ≤ max_side }
     ensures pixels { OnOk result (Codes encoder.old encoder.new
-        (decisions_of_pixels (neighbour_pixels neighbours) bitmap.now y bitmap.now.width)) }
+        (decisions_of_pixels (nominal_pixels neighbours) bitmap.now y bitmap.now.width)) }
     ensures steps { steps.new ≡ record steps.old { loads = steps.new.loads } }
     ensures loads { steps.new.loads ≤ steps.old.loads + 3 * ((bitmap.now.width + 31) / 32) }
 {

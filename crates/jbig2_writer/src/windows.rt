@@ -10,7 +10,8 @@ ghost use Rattle.std.specs.Prelude.{◌≡◌, ℕ, ◌+◌, ◌-◌, ◌/◌, �
 ghost use Rattle.jbig2_base.specs.Grid.{Grid, pixel_at};
 ghost use Rattle.jbig2_region.specs.Generic.{context_at};
 ghost use Rattle.jbig2_region.specs.inner.Windows.{IsWindow};
-ghost use Rattle.jbig2_writer.specs.inner.Windows.{IsNarrow, AreWindows, neighbour_pixels};
+ghost use Rattle.jbig2_writer.specs.inner.Windows.{IsNarrow, AreWindows};
+ghost use Rattle.jbig2_region.specs.inner.Neighbours.{nominal_pixels};
 
 use jbig2_base::bitmap::Bitmap;
 use jbig2_region::template::{Neighbours, Stretch};
@@ -96,7 +97,7 @@ impl Windows {
         requires near { IsNarrow neighbours }
         requires offset { offset < 32 }
         ensures { (g : Grid) (x y : ℕ) → AreWindows g x y self
-            → result ≡ context_at (neighbour_pixels neighbours) g (x + offset) y }
+            → result ≡ context_at (nominal_pixels neighbours) g (x + offset) y }
     {
         let left = bits(self.row, 56 - offset, neighbours.left);
         let above = stretch_bits(neighbours.above, self.above, offset);

@@ -1,15 +1,10 @@
 """Bitmaps, and what the regions make of them, beside plain readings of the standard."""
 import unittest
 
-from conformance.runner.segments import segments_of_file
-from testing.jbig2_encoder import fields
 from testing.jbig2_encoder.bitmap import AND, OR, REPLACE, XNOR, XOR, Bitmap, context_rows, side_by_side
 from testing.jbig2_encoder.dictionary import HeightClass, NewSymbol, SymbolDictionary
-from testing.jbig2_encoder.document import Document
-from testing.jbig2_encoder.framing import EXTENSION
 from testing.jbig2_encoder.generic import NOMINAL, TEMPLATES, TYPICAL
 from testing.jbig2_encoder.halftone import Grid, planes_of
-from testing.jbig2_encoder.prefix import even_lengths, runs_of
 from testing.jbig2_encoder.refinement import predictions
 from testing.jbig2_encoder.text import BOTTOM_LEFT, BOTTOM_RIGHT, TOP_LEFT, TOP_RIGHT, Instance, Settings, Strip, Text
 from testing.jbig2_encoder.text import draw_text
@@ -89,32 +84,6 @@ class RegionTest(unittest.TestCase):
         new = [Bitmap(1, 1), Bitmap(2, 1), Bitmap(3, 1)]
         dictionary = SymbolDictionary([HeightClass(1, [NewSymbol(symbol) for symbol in new])], runs=[1, 1, 0, 1])
         self.assertEqual(dictionary.exported(), new[1:])
-
-    def test_codes_of_ids(self):
-        for count in range(1, 40):
-            self.assertEqual(sum(2.0 ** -length for length in even_lengths(count)), 1 if count > 1 else 0.5)
-        runs = runs_of([3, 3, 3, 3, 0, 0, 0, 5] + [0] * 140)
-        self.assertEqual(runs, [(3, 0, 0), (32, 0, 2), (33, 0, 3), (5, 0, 0), (34, 127, 7), (0, 0, 0), (0, 0, 0)])
-
-
-class DocumentTest(unittest.TestCase):
-    def test_flags_of_retention_follow_from_later_references(self):
-        document = Document()
-        page = document.start_page(8, 1)
-        first = page.put(EXTENSION, b"")
-        page.put(EXTENSION, b"", [first])
-        page.put(EXTENSION, b"", [first])
-        counts = [part.beginning[5] for part in segments_of_file(document.sequential())]
-        self.assertEqual(counts, [0x00, 0x01, 0x22, 0x20])
-
-    def test_every_header_field_has_a_name(self):
-        names = []
-        with fields.changed_by(lambda name, value, bits: names.append(name) or value):
-            document = Document()
-            document.start_page(8, 1).end()
-            document.sequential()
-        self.assertEqual(names[:3], ["page width", "page height", "horizontal resolution"])
-        self.assertEqual(names.count("segment number"), 2)
 
 
 if __name__ == "__main__":

@@ -1,9 +1,11 @@
-"""Headers of segments and files as bytes, and pictures."""
+"""Headers of segments and files as bytes, documents, and pictures."""
 import unittest
 
+from conformance.runner.segments import segments_of_file
 from testing.jbig2_encoder import fields
 from testing.jbig2_encoder.bitmap import Bitmap
-from testing.jbig2_encoder.framing import page_information, segment_header
+from testing.jbig2_encoder.document import Document
+from testing.jbig2_encoder.framing import EXTENSION, page_information, segment_header
 from testing.jbig2_encoder.pictures import pbm, pixels
 
 
@@ -36,6 +38,26 @@ class FramingTest(unittest.TestCase):
         self.assertNotEqual(pixels(pbm(Bitmap(9, 2))), pixels(pbm(Bitmap(10, 2))))
         for length in 1, 2, 3:
             self.assertNotEqual(pixels(pbm(Bitmap(9, 2))), pixels(pbm(Bitmap(9, 2))[:-length]))
+
+
+class DocumentTest(unittest.TestCase):
+    def test_flags_of_retention_follow_from_later_references(self):
+        document = Document()
+        page = document.start_page(8, 1)
+        first = page.put(EXTENSION, b"")
+        page.put(EXTENSION, b"", [first])
+        page.put(EXTENSION, b"", [first])
+        counts = [part.beginning[5] for part in segments_of_file(document.sequential())]
+        self.assertEqual(counts, [0x00, 0x01, 0x22, 0x20])
+
+    def test_every_header_field_has_a_name(self):
+        names = []
+        with fields.changed_by(lambda name, value, bits: names.append(name) or value):
+            document = Document()
+            document.start_page(8, 1).end()
+            document.sequential()
+        self.assertEqual(names[:3], ["page width", "page height", "horizontal resolution"])
+        self.assertEqual(names.count("segment number"), 2)
 
 
 if __name__ == "__main__":

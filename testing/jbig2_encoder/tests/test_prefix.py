@@ -3,7 +3,7 @@ import unittest
 
 from testing.jbig2_encoder import t6
 from testing.jbig2_encoder.bitmap import Bitmap
-from testing.jbig2_encoder.prefix import LOWER, STANDARD, UPPER, Bits, codes_of
+from testing.jbig2_encoder.prefix import LOWER, STANDARD, UPPER, Bits, codes_of, even_lengths, runs_of
 
 
 class PrefixTest(unittest.TestCase):
@@ -26,6 +26,12 @@ class PrefixTest(unittest.TestCase):
         STANDARD[1].put(bits, 5)
         STANDARD[1].put(bits, 19)
         self.assertEqual("".join(bits.digits), "00101" + "1000000011")
+
+    def test_codes_of_ids(self):
+        for count in range(1, 40):
+            self.assertEqual(sum(2.0 ** -length for length in even_lengths(count)), 1 if count > 1 else 0.5)
+        runs = runs_of([3, 3, 3, 3, 0, 0, 0, 5] + [0] * 140)
+        self.assertEqual(runs, [(3, 0, 0), (32, 0, 2), (33, 0, 3), (5, 0, 0), (34, 127, 7), (0, 0, 0), (0, 0, 0)])
 
 
 class RowsOfT6Test(unittest.TestCase):

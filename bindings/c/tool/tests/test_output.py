@@ -1,16 +1,14 @@
 """Where pictures go: names, folders, standard output; files that are whole or not there."""
 from __future__ import annotations
 
-import functools
 import os
 import pathlib
 import pty
-import signal
 import struct
 import subprocess
 import unittest
 
-from support import BOOK, COUNTED, EXAMPLE, HAS_TIFF, NOT_DONE, PATIENCE, TOOL, WHOLE, Case
+from support import BOOK, COUNTED, EXAMPLE, HAS_TIFF, NOT_DONE, TOOL, WHOLE, Case
 from support import chunks_of, decoded, picture_of_png, pictures_of, wait_until
 
 MEANT = [decoded(EXAMPLE, index) for index in range(3)]
@@ -319,20 +317,6 @@ class Output(Case):
             ended = self.run_here(*words, "-o", "all.pbm")
             self.assert_ends(ended, NOT_DONE, "all.pbm is not written, since it would lack pages")
             self.assertEqual(self.files(), ["scan.jb2"])
-
-    def test_a_signal_leaves_no_part(self):
-        self.made(slow_page(100), "quick.jb2e")
-        self.made(slow_page(60000), "slow.jb2e")
-        words = [TOOL, "quick.jb2e", "slow.jb2e", "-o", "both.pbm"]
-        for number in signal.SIGTERM, signal.SIGQUIT, signal.SIGXCPU:
-            # A shell starts a background job with some signals ignored, and the command leaves them ignored.
-            how = {"preexec_fn": functools.partial(signal.signal, number, signal.SIG_DFL)}
-            with subprocess.Popen(words, cwd=self.room, stderr=subprocess.DEVNULL, **how) as process:
-                self.wait_for_part(process)
-                process.send_signal(number)
-                self.assertEqual(process.wait(PATIENCE), -number)
-            files = [name for name in self.files() if not name.startswith("core")]
-            self.assertEqual(files, ["quick.jb2e", "slow.jb2e"])
 
     def test_a_terminal(self):
         leader, follower = pty.openpty()

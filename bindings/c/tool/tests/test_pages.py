@@ -24,7 +24,7 @@ from support import (
     run,
 )
 
-from conformance.runner.embedding import file_of, embedded_page
+from conformance.runner.embedding import embedded_page, file_of, image_of
 from conformance.runner.manifest import PICTURE, read_manifest, read_sample
 from conformance.runner.segments import header_at, with_data
 from test_output import slow_page
@@ -328,6 +328,14 @@ class Limits(Case):
             ended = self.run_here(page, "--strict", "--work", work, "-f", "pbm", "-o", "-")
             named |= set(re.findall(r"segment (\d+)", ended.errors))
         self.assertEqual(named, {"2"})
+
+    def test_the_limit_of_shared_globals_is_that_of_the_first_page_for_each_file(self):
+        """So it doesn't depend on which page is drawn first."""
+        page = image_of(embedded_page(BOOK, 1))
+        self.made(page.stream, "a.jb2e"), self.made(page.shared, "all.jb2g")
+        for jobs in 1, 4:
+            ended = self.run_here("-g", "all.jb2g", "a.jb2e", "a.jb2e", "--work", "10", "-j", jobs, "-o", "out.pbm")
+            self.assertEqual(ended.errors.count("globals: refused by the limit of work"), 2)
 
     def test_memory(self):
         text = "refused by the limit of memory (--memory)"

@@ -232,13 +232,6 @@ class Globals(Case):
             ended = self.run_here(self.made(data, "scan.pdf"), *words, "-q", "-f", "pbm", "-o", "-", program=COUNTED)
             self.assertEqual(ended.status, WHOLE, ended.errors)
 
-    def test_the_limit_of_shared_globals_is_that_of_the_first_page_for_each_file(self):
-        """So it doesn't depend on which page is drawn first."""
-        self.made(PAGE.stream, "a.jb2e"), self.made(PAGE.shared, "all.jb2g")
-        for jobs in 1, 4:
-            ended = self.run_here("-g", "all.jb2g", "a.jb2e", "a.jb2e", "--work", "10", "-j", jobs, "-o", "out.pbm")
-            self.assertEqual(ended.errors.count("globals: refused by the limit of work"), 2)
-
 
 if __name__ == "__main__":
     unittest.main()

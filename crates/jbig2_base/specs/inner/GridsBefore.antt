@@ -1,4 +1,5 @@
--- A bitmap that is filled from the top, each row from the left (our own rule).
+-- A bitmap that is filled from the top, each row from the left, and a part of another one with which it is filled (our
+-- own rule).
 use Rattle.std.specs.Prelude.{ℕ, ◌+◌, Bool, ◌&&◌, ◌||◌, ◌==◌, nat_lt}
 use Rattle.jbig2_base.specs.Grid.{Grid, grid_of, pixel_at}
 use Rattle.jbig2_base.specs.declared.bitmap.part.Area.{Area}

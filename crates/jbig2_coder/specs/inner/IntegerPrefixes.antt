@@ -1,7 +1,8 @@
 -- The prefix of an integer, by its number of ones: it ends after its first 0, or with its fifth bit (T.88, Table A.1).
 -- Then the contexts of symbol ids.
 use Rattle.std.specs.Prelude.{ℕ, suc, zero, Bool, true, if◌then◌else◌, List, [], ◌∷◌, slice_index_or}
-use Rattle.jbig2_coder.specs.Integers.{Reading, Range, next, read, prev_of, range, ranges, value_of_bits}
+use Rattle.jbig2_coder.specs.Integers.{Reading, Range, next, read, prev_of, range, ranges}
+use Rattle.jbig2_base.specs.Bits.{value_of_bits}
 
 pub record Prefix : Type 0 where
   pub ones : ℕ

@@ -15,13 +15,12 @@ use Rattle.jbig2_region.specs.Steps.{CountsRegion, CountsSkipping}
 use Rattle.jbig2_region.specs.Templates.{template_pixels, nominal_adaptive_pixels}
 use Rattle.jbig2_region.specs.declared.template.AdaptiveTemplatePixel.{AdaptiveTemplatePixel}
 use Rattle.jbig2_region.specs.WholeRows.{whole_rows}
-use Rattle.jbig2_halftone.specs.GrayScale.{GrayScale, after_planes, gray_values, mmr_planes}
+use Rattle.jbig2_halftone.specs.GrayScale.{GrayScale, after_planes, gray_values, mmr_planes, mmr_left}
 use Rattle.jbig2_halftone.specs.Halftone.{column_of, gray_params, row_of, is_beyond}
 use Rattle.jbig2_halftone.specs.HalftoneHeader.{HalftoneHeader}
 use Rattle.jbig2_halftone.specs.Patterns.{Patterns}
 use Rattle.jbig2_halftone.specs.Steps.{CountsPlanes, CountsMasked, StopsImage, TakesLanes, after_mask, taking_loads}
 use Rattle.jbig2_halftone.specs.Steps.{words_of_plane}
-use Rattle.jbig2_halftone.specs.WholeCells.{mmr_left}
 
 -- ---- patterns
 -- pattern k: the columns from k * width on

@@ -1,7 +1,7 @@
 -- Bytes that are put into a caller's buffer (our own rule).
 use Rattle.std.specs.Prelude.{◌≡◌, ℕ, ◌+◌, ◌-◌, ◌*◌, ◌<◌, Bool, List, map, get_or, length}
 use Rattle.std.specs.List.{range_with_len}
-use Rattle.jbig2_coder.specs.Integers.{value_of_bits}
+use Rattle.jbig2_base.specs.Bits.{value_of_bits}
 
 -- This many bytes are put at a place. The bytes before it are as they were.
 pub record Fills (byte : ℕ → ℕ) (place count : ℕ) (old new : List ℕ) : Type 0 where

@@ -6,8 +6,7 @@ use Rattle.jbig2_base.specs.Grid.{Grid}
 use Rattle.jbig2_base.specs.declared.error.DecodeError.{DecodeError}
 use Rattle.jbig2_base.specs.declared.error.DecodeError.TheVariants.{Overflow}
 use Rattle.jbig2_base.specs.declared.error.OverflowError.TheVariants.{ReferenceOffset}
-use Rattle.jbig2_region.specs.RegionInfo.{PlacedRegion}
-use Rattle.jbig2_region.specs.Refinement.{is_far}
+use Rattle.jbig2_region.specs.RegionInfo.{PlacedRegion, is_far}
 use Rattle.jbig2_region.specs.declared.region_info.RegionSegmentInfo.{RegionSegmentInfo}
 use Rattle.jbig2_page.specs.Names.{Names, no_names}
 use Rattle.jbig2_page.specs.Regions.{page_area}

@@ -1,7 +1,7 @@
 -- How a region is decoded, once its header is read and what it refers to is found (T.88, 7.4.3 and 7.4.5 to 7.4.7).
 use Rattle.std.specs.Prelude.{◌≡◌, ◌≤◌, Bool, false, Result, Ok, Err, ◌⊎◌}
 use Rattle.jbig2_base.specs.Results.{◌>>=◌}
-use Rattle.jbig2_base.specs.Grid.{Grid, max_side, check_sides, grid_of, pixel_at}
+use Rattle.jbig2_base.specs.Grid.{Grid, check_sides, grid_of, pixel_at}
 use Rattle.jbig2_base.specs.declared.error.DecodeError.{DecodeError}
 use Rattle.jbig2_base.specs.declared.error.DecodeError.TheVariants.{OutOfMemory}
 use Rattle.jbig2_region.specs.RegionInfo.{PlacedRegion, at_location}
@@ -13,7 +13,7 @@ use Rattle.jbig2_region.specs.GenericHeader.{IsParsed}
 use Rattle.jbig2_region.specs.RefinementHeader.{IsRefinement}
 use Rattle.jbig2_halftone.specs.Halftone.{halftone_result}
 use Rattle.jbig2_halftone.specs.inner.DictionaryViews.{dictionary_view}
-use Rattle.jbig2_halftone.specs.HalftoneHeader.{HalftoneHeader}
+use Rattle.jbig2_halftone.specs.HalftoneHeader.{HasCells}
 use Rattle.jbig2_text.specs.TextRegion.{text_result}
 use Rattle.jbig2_page.specs.Page.{Drawing}
 use Rattle.jbig2_page.specs.declared.region.parsed_region.ParsedRegion.{ParsedRegion}
@@ -65,11 +65,6 @@ placed_region r = do
   fits ← check_sides (info_of r).width (info_of r).height
   g ← region_grid r
   Ok (at_location (info_of r) g)
-
--- the limits of a halftone's grid
-pub record HasCells (header : HalftoneHeader) : Type 0 where
-  pub columns : header.grid_position_and_size.width ≤ max_side
-  pub rows : header.grid_position_and_size.height ≤ max_side
 
 -- what holds for every region that was parsed
 abbrev pub IsDecodable : {A : Type 0} → ParsedRegion A → Type 0

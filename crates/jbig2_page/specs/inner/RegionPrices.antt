@@ -7,7 +7,7 @@ use Rattle.jbig2_steps.specs.declared.prices.TheConstants as prices
 use Rattle.jbig2_region.specs.GenericSteps.{price_of_region}
 use Rattle.jbig2_halftone.specs.Steps.{price_of_halftone}
 use Rattle.jbig2_halftone.specs.inner.DictionaryViews.{dictionary_view}
-use Rattle.jbig2_text.specs.Paying.{number_steps}
+use Rattle.jbig2_coder.specs.Integers.{number_steps}
 use Rattle.jbig2_page.specs.declared.region.parsed_region.ParsedRegion.{ParsedRegion}
 use Rattle.jbig2_page.specs.declared.region.parsed_region.ParsedRegion.TheVariants.{Text, Halftone, Generic}
 use Rattle.jbig2_page.specs.declared.region.parsed_region.ParsedRegion.TheVariants.{Refinement, PageRefinement, Part}

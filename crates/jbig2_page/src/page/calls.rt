@@ -1,12 +1,12 @@
 //! The calls that draw a bitmap on a `Decoder`.
 ghost use Rattle.std.specs.Prelude.{◌≡◌, ◌+◌, ◌-◌, ◌*◌, ◌/◌, ◌<◌, ◌≤◌, drop, take};
 ghost use Rattle.jbig2_base.specs.Grid.{Grid};
-ghost use Rattle.jbig2_base.specs.Bits.{bit};
 ghost use Rattle.jbig2_page.specs.Calls.{row_of_grid, singles, line_calls, calls_of, IsCountable, Sends};
 ghost use Rattle.jbig2_page.specs.inner.RunViews.{bytes_of_run, run_of, IsColourOf, IsRunAt};
 ghost use Rattle.jbig2_steps.specs.Work.{CountsBeside, paid_words, sum_of_counts, price_of_bitmap};
 
 use crate::page::decoder::Decoder;
+use crate::row_places::pixel_of;
 use jbig2_base::bitmap::Bitmap;
 use jbig2_base::bitmap::colour::find_colour;
 use jbig2_base::error::Result;
@@ -70,15 +70,6 @@ fn run_at<A: Allocator, L: Ledger>(
         Some(black) => Some((black, run(bitmap, x, y, black, steps))),
         None => None,
     }
-}
-
-/// The pixel at a place of loaded pixels; the last pixel has place 0.
-#[inline(always)]
-pub(crate) fn pixel_of(pixels: u64, place: u32) -> bool
-    requires { place < 64 }
-    ensures { result ≡ bit pixels place }
-{
-    (pixels >> place) & 1 == 1
 }
 
 /// Pushes the pixels of row `y` from column `x` up to column `end`, at most 64 of them, one by one.

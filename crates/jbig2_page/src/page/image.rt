@@ -6,8 +6,7 @@ ghost use Rattle.jbig2_page.specs.Image.{image_of, shade};
 ghost use Rattle.jbig2_page.specs.inner.BufferBytes.{Fills};
 ghost use Rattle.jbig2_steps.specs.Work.{CountsBeside, paid_words, price_of_bitmap};
 
-use crate::packed::next_place;
-use crate::page::calls::pixel_of;
+use crate::row_places::{next_place, pixel_of};
 use jbig2_base::bitmap::Bitmap;
 use jbig2_framing::page_info::InitialPage;
 use jbig2_steps::Steps;

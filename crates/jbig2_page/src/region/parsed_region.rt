@@ -7,11 +7,10 @@ ghost use Rattle.jbig2_region.specs.inner.RegionViews.{region_view};
 ghost use Rattle.jbig2_page.specs.Page.{Drawing, with_drawn_region};
 ghost use Rattle.jbig2_page.specs.inner.ParsedRegions.{IsDecodable, placed_region, region_grid, info_of, initial_of};
 ghost use Rattle.jbig2_page.specs.inner.RegionPrices.{counts_of, price_besides, price_of_info, words_of_info};
-ghost use Rattle.jbig2_steps.specs.Work.{Paid, price_of_bitmap, budget};
-ghost use Rattle.jbig2_text.specs.Paying.{PaidBeside};
+ghost use Rattle.jbig2_steps.specs.Work.{Paid, PaidBeside, price_of_bitmap, budget};
 
 use crate::kept::referred::ReferredSegments;
-use crate::region::halftone::pay_cells;
+use crate::region::cell_price::pay_cells;
 use crate::workspace::{MOST_CONTEXTS, Workspace};
 use jbig2_base::bitmap::{Bitmap, CombinationOperator, check_sides};
 use jbig2_base::error::{DecodeError, Result};

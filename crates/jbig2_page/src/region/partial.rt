@@ -17,7 +17,7 @@ ghost use Rattle.jbig2_region.specs.inner.RefinementHeaderViews as refinements;
 ghost use Rattle.jbig2_text.specs.inner.TextViews as texts;
 
 use crate::kept::referred::ReferredSegments;
-use crate::region::halftone::pay_cells;
+use crate::region::cell_price::pay_cells;
 use crate::region::parsed_region::ParsedRegion;
 use crate::workspace::Workspace;
 use jbig2_base::bitmap::check_sides;

@@ -1,4 +1,4 @@
--- A decoded region of the code, as the definitions' region.
+-- A decoded region of the code and its mask of skipped pixels, as the definitions have them.
 use Rattle.jbig2_region.specs.declared.decoded_region.DecodedRegion.{DecodedRegion}
 use Rattle.jbig2_region.specs.RegionInfo.{PlacedRegion}
 use Rattle.std.specs.Prelude.{Option, Some, None}

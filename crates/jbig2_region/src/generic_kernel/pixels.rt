@@ -7,8 +7,8 @@ ghost use Rattle.jbig2_region.specs.inner.Neighbours.{DecodesPixels, IsMixed, ad
 ghost use Rattle.jbig2_region.specs.inner.RegionStates.{region_state};
 ghost use Rattle.jbig2_region.specs.inner.Windows.{IsLeft, Shows};
 
-use crate::generic_coding::context_at;
 use crate::generic_kernel::windows::{Place, Windows, stretch_bits, windows_at};
+use crate::pixel_context::context_at;
 use crate::template::layouts::Adaptives;
 use crate::template::neighbours::{Neighbours, join};
 use jbig2_base::bitmap::Bitmap;

@@ -10,7 +10,8 @@ ghost use Rattle.jbig2_region.specs.inner.RegionViews.{region_view};
 
 use crate::decoded_region::DecodedRegion;
 use crate::generic_refinement::header::GenericRefinementRegionHeader;
-use crate::generic_refinement::{ReferenceBitmap, decode, offset};
+use crate::generic_refinement::{decode, offset};
+use crate::reference_bitmap::ReferenceBitmap;
 use crate::refinement_coding::count_refined_rows;
 use jbig2_base::bitmap::Bitmap;
 use jbig2_base::bitmap::operator::CombinationOperator;

@@ -19,7 +19,7 @@ ghost use Rattle.jbig2_base.specs.Bits.{bit};
 ghost use Rattle.jbig2_region.specs.inner.ReferenceViews.{reference_view};
 ghost use Rattle.jbig2_region.specs.inner.RefinementWindows.{Sees, SeesRows, known_of, nine_of, three_of, known_at};
 
-use crate::generic_refinement::ReferenceBitmap;
+use crate::reference_bitmap::ReferenceBitmap;
 use jbig2_base::bitmap::Bitmap;
 use jbig2_steps::Steps;
 use std::alloc::Allocator;

@@ -6,7 +6,7 @@ ghost use Rattle.jbig2_region.specs.Templates.{adaptive, adaptive_pixel_count, c
 ghost use Rattle.jbig2_region.specs.inner.PixelArrays.{four_pixels};
 
 use crate::template::neighbours::{Neighbours, Stretch};
-use crate::template::{AdaptiveTemplatePixel, Template};
+use crate::template::{AdaptiveTemplatePixel, Template, lies_at};
 
 /// The adaptive pixels, by the neighbours between which their bits come: after those on the left,
 /// after those above, and last.
@@ -70,12 +70,6 @@ pub fn fixed_neighbours(template: Template) -> Neighbours
         Template::Template2 => neighbours_of(2, 1, 4, 1, 3),
         Template::Template3 => neighbours_of(4, 1, 5, 0, 0),
     }
-}
-
-pub fn lies_at(pixel: AdaptiveTemplatePixel, x: i16, y: i16) -> bool
-    ensures { result ≡ lies_at pixel x y }
-{
-    pixel.x == x && pixel.y == y
 }
 
 fn lies_with(pixel: AdaptiveTemplatePixel, other: AdaptiveTemplatePixel) -> bool

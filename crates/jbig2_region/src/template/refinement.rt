@@ -7,8 +7,7 @@ ghost use Rattle.jbig2_region.specs.inner.PixelArrays.{two_pixels};
 ghost use Rattle.jbig2_region.specs.inner.RefinementWindows.{corners};
 ghost use Rattle.jbig2_region.specs.declared.template.RefinementTemplate.TheVariants.{Template0, Template1};
 
-use crate::template::layouts::lies_at;
-use crate::template::{AdaptiveTemplatePixel, RefinementTemplate, pixel};
+use crate::template::{AdaptiveTemplatePixel, RefinementTemplate, lies_at, pixel};
 
 /// The reference's pixels in template 0, bit 0 of a context first (Figure 12).
 pub fn reference_0(a: &[AdaptiveTemplatePixel; 2]) -> [AdaptiveTemplatePixel; 9]

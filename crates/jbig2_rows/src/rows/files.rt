@@ -1,8 +1,8 @@
 //! The rows R9, and the cases of files in other rows.
+use crate::answer::Answer::{Calls, Undrawn};
+use crate::answer::Modes::{Both, Lenient, Strict};
 use crate::call::{DOT, WHITE};
-use crate::case::Answer::{Calls, Undrawn};
 use crate::case::Case::File;
-use crate::case::Modes::{Both, Lenient, Strict};
 use crate::case::{Case, Row};
 use crate::errors::{INVALID_REFERENCE, INVALID_SELECTION, NO_PAGE, PAGE_COUNT, TOO_EARLY};
 use crate::file_case::FileCase::{CutOff, NoFirstPage, NoGlobals, Pages, Refused};

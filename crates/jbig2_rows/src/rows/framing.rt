@@ -1,8 +1,8 @@
 //! The rows R1.
+use crate::answer::Answer::{Calls, Refused, Undrawn};
+use crate::answer::Modes::Both;
 use crate::call::{WHITE, WHITE_TWICE};
-use crate::case::Answer::{Calls, Refused, Undrawn};
 use crate::case::Case::{ByMode, Page};
-use crate::case::Modes::Both;
 use crate::case::{Case, Row};
 use crate::errors::TOO_EARLY;
 use crate::salvage::{NOTHING, Report, SalvageCase};

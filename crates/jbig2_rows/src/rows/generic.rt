@@ -1,8 +1,8 @@
 //! The rows R3: generic regions.
+use crate::answer::Answer::{Calls, Refused, Undrawn};
+use crate::answer::Modes::Both;
 use crate::call::{BLACK, Call, INK, LINE, PAPER, WHITE};
-use crate::case::Answer::{Calls, Refused, Undrawn};
 use crate::case::Case::{ByMode, Page};
-use crate::case::Modes::Both;
 use crate::case::Row;
 use crate::errors::INVALID_SIZE;
 use hayro_jbig2::{DecodeError, SegmentError};

@@ -1,8 +1,8 @@
 //! The rows R7 and R15: pattern dictionaries and halftone regions.
+use crate::answer::Answer::{Calls, Undrawn};
+use crate::answer::Modes::Both;
 use crate::call::{BLACK, Call, DOT, INK, LINE, PAPER, WHITE};
-use crate::case::Answer::{Calls, Undrawn};
 use crate::case::Case::{ByMode, Page};
-use crate::case::Modes::Both;
 use crate::case::{Case, Row};
 use crate::errors::{TOO_EARLY, TOO_LARGE};
 use crate::salvage::{NOTHING, Report, SalvageCase};

@@ -1,6 +1,6 @@
 //! The rows R4: MMR data.
+use crate::answer::Modes::{Both, Lenient, Strict};
 use crate::case::Case::Mmr;
-use crate::case::Modes::{Both, Lenient, Strict};
 use crate::case::Row;
 use crate::errors::INVALID_MMR;
 use crate::mmr::{ExpectedRows, MmrCase};

@@ -1,8 +1,8 @@
 //! The rows R6: refinements.
+use crate::answer::Answer::{Calls, Undrawn};
+use crate::answer::Modes::Both;
 use crate::call::{BLACK, Call, INK, LINE, PAPER, WHITE};
-use crate::case::Answer::{Calls, Undrawn};
 use crate::case::Case::{ByMode, Page};
-use crate::case::Modes::Both;
 use crate::case::Row;
 use crate::errors::{INVALID_REFERENCE, INVALID_SIZE};
 use hayro_jbig2::{DecodeError, OverflowError};

@@ -1,8 +1,8 @@
 //! The rows R2 and R11: regions on the page.
+use crate::answer::Answer::{Calls, Undrawn};
+use crate::answer::Modes::Both;
 use crate::call::{BLACK, Call, DOT, INK, LINE, PAPER, WHITE};
-use crate::case::Answer::{Calls, Undrawn};
 use crate::case::Case::{ByMode, Page};
-use crate::case::Modes::Both;
 use crate::case::Row;
 use hayro_jbig2::{DecodeError, RegionError, TemplateError};
 

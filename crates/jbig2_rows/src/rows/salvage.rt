@@ -1,6 +1,6 @@
 //! The rows R17, of salvage.
+use crate::answer::Answer::{Calls, Refused};
 use crate::call::{BLACK, Call, DOT, INK, LINE, PAPER, WHITE};
-use crate::case::Answer::{Calls, Refused};
 use crate::case::{Case, Row};
 use crate::errors::{
     INVALID_CODE, INVALID_OPERATOR, INVALID_REFERENCE, INVALID_SELECTION, NO_HEIGHT, NO_PAGE,

@@ -1,8 +1,8 @@
 //! The rows of symbol dictionaries and text regions.
+use crate::answer::Answer::{Calls, Refused, Undrawn};
+use crate::answer::Modes::{Both, Lenient, Strict};
 use crate::call::{DOT, WHITE};
-use crate::case::Answer::{Calls, Refused, Undrawn};
 use crate::case::Case::{Beginnings, ByMode, Page};
-use crate::case::Modes::{Both, Lenient, Strict};
 use crate::case::{Case, Row};
 use crate::coder::CoderCase;
 use crate::errors::{INVALID_SELECTION, NO_PAGE, TOO_EARLY};

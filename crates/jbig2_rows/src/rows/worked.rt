@@ -1,8 +1,8 @@
 //! The rows 1 to 19.
+use crate::answer::Answer::{Calls, Refused, Undrawn};
+use crate::answer::Modes::Both;
 use crate::call::{BLACK, Call, DOT, LINE, PAPER, WHITE, WHITE_TWICE};
-use crate::case::Answer::{Calls, Refused, Undrawn};
 use crate::case::Case::{ByMode, Page};
-use crate::case::Modes::Both;
 use crate::case::{Case, Header, Row};
 use crate::coder::{CoderCase, Reading};
 use crate::errors::{INVALID_MMR, TOO_EARLY, TOO_LARGE};

@@ -8,7 +8,7 @@ use Rattle.jbig2_base.specs.declared.error.OverflowError.TheVariants.{BitmapDime
 use Rattle.jbig2_base.specs.declared.error.HuffmanError.TheVariants.{UnexpectedOob}
 use Rattle.jbig2_base.specs.declared.error.DecodeError.TheVariants.{Huffman, Overflow}
 use Rattle.jbig2_base.specs.declared.error.DecodeError.{DecodeError}
-use Rattle.jbig2_text.specs.TextCoding.{in_band}
+use Rattle.jbig2_coder.specs.Integers.{in_band}
 use Rattle.jbig2_symbol.specs.SymbolBitmaps.{collective_bitmap, raw_stride}
 use Rattle.jbig2_symbol.specs.SymbolReading.{by_table, not_negative, SymbolInput, SymbolState}
 use Rattle.jbig2_symbol.specs.declared.widths.RunningWidths.{RunningWidths}

@@ -12,7 +12,8 @@ use jbig2_coder::arithmetic_decoder::{
 };
 use jbig2_permit::Permit;
 use jbig2_region::generic::DecodedRegion;
-use jbig2_region::generic_refinement::{ReferenceBitmap, decode, decode_bitmap, parse};
+use jbig2_region::generic_refinement::{decode, decode_bitmap, parse};
+use jbig2_region::reference_bitmap::ReferenceBitmap;
 use jbig2_region::template::{AdaptiveTemplatePixel, RefinementTemplate};
 use jbig2_steps::Steps;
 use std::alloc::Global;

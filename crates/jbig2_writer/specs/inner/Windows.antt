@@ -1,19 +1,13 @@
 -- Rows in windows of 64 pixels, the pixels of a template that lie side by side in them, and what an encoder has coded.
-use Rattle.std.specs.Prelude.{ℕ, ◌+◌, ◌≤◌, pos, negsuc, ◌-ℤ◌, List, ◌++◌}
+use Rattle.std.specs.Prelude.{ℕ, ◌+◌, ◌≤◌, pos, ◌-ℤ◌, List, ◌++◌}
 use Rattle.jbig2_base.specs.Grid.{Grid}
 use Rattle.jbig2_coder.specs.Encoder.{CodingInContexts, HasCoded}
-use Rattle.jbig2_region.specs.inner.Neighbours.{side_by_side}
+use Rattle.jbig2_region.specs.inner.Neighbours.{nominal_pixels}
 use Rattle.jbig2_region.specs.inner.Windows.{IsWindow}
-use Rattle.jbig2_region.specs.declared.template.AdaptiveTemplatePixel.{AdaptiveTemplatePixel}
 use Rattle.jbig2_region.specs.declared.template.neighbours.Neighbours.{Neighbours}
 use Rattle.jbig2_inverses.specs.CoderStates.{Entry}
 use Rattle.jbig2_writer.specs.declared.windows.Windows.{Windows}
 use Rattle.jbig2_writer.specs.inner.Rows.{decisions_of_pixels}
-
--- as a list of places, bit 0 of a context first
-abbrev pub neighbour_pixels : Neighbours → List AdaptiveTemplatePixel
-neighbour_pixels n =
-    side_by_side (negsuc 0) 0 n.left ++ (side_by_side (pos n.above.reach) 1 n.above.count ++ side_by_side (pos n.top.reach) 2 n.top.count)
 
 -- small enough for the windows
 pub record IsNarrow (n : Neighbours) : Type 0 where
@@ -38,4 +32,4 @@ CodesOn old new before after = (list : List Entry) → HasCoded old (list ++ bef
 abbrev pub CodesGroup : Neighbours → Windows → ℕ → CodingInContexts → CodingInContexts → Type 0
 CodesGroup n w count old new =
     (g : Grid) (x y : ℕ) → AreWindows g x y w
-    → CodesOn old new (decisions_of_pixels (neighbour_pixels n) g y x) (decisions_of_pixels (neighbour_pixels n) g y (x + count))
+    → CodesOn old new (decisions_of_pixels (nominal_pixels n) g y x) (decisions_of_pixels (nominal_pixels n) g y (x + count))

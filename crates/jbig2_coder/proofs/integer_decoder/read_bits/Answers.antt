@@ -1,9 +1,9 @@
 use Rattle.std.proofs.Common.{◌≡◌, ℕ, ◌+◌, ◌*◌, ◌^◌, ◌<◌, List, refl, ap, subst, ◌∙◌, arith, add-one, drop, length}
 use Rattle.std.proofs.Math.Nat.{pow-suc}
-use Rattle.jbig2_coder.specs.Integers.{Reading, next, read_more, prev_of, value_of_bits}
+use Rattle.jbig2_coder.specs.Integers.{Reading, next, read_more, prev_of}
 use Rattle.jbig2_coder.specs.inner.IntegerStates.{HasRead}
 use Rattle.jbig2_coder.proofs.Readings.{read_more-none, read_more-next, number-none, number-next, HasRead-bytes}
-use Rattle.jbig2_base.specs.Bits.{bit_number}
+use Rattle.jbig2_base.specs.Bits.{bit_number, value_of_bits}
 use Rattle.jbig2_coder.proofs.integer_decoder.read_bits.Goals as goal
 
 grown : (value bit n : ℕ) → value < 2 ^ n → bit < 2 → 2 * value + bit < 2 ^ (n + 1)

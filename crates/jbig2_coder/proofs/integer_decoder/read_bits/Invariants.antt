@@ -1,6 +1,7 @@
 use Rattle.std.proofs.Common.{◌≡◌, ◌^◌, ◌<◌, length, drop}
 use Rattle.jbig2_base.specs.Counts.{Counts}
-use Rattle.jbig2_coder.specs.Integers.{Reading, value_of_bits, read_more, prev_of}
+use Rattle.jbig2_coder.specs.Integers.{Reading, read_more, prev_of}
+use Rattle.jbig2_base.specs.Bits.{value_of_bits}
 use Rattle.jbig2_coder.specs.inner.IntegerStates.{HasRead}
 use Rattle.jbig2_coder.proofs.integer_decoder.read_bits.Given as goal
 

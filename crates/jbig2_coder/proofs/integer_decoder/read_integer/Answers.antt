@@ -1,6 +1,7 @@
 use Rattle.std.proofs.Common.{ap, subst, ◌∙◌}
 use Rattle.std.specs.Prelude.{◌==◌}
-use Rattle.jbig2_coder.specs.Integers.{Reading, value_of_bits, read, prev_of}
+use Rattle.jbig2_coder.specs.Integers.{Reading, read, prev_of}
+use Rattle.jbig2_base.specs.Bits.{value_of_bits}
 use Rattle.jbig2_coder.specs.inner.IntegerPrefixes.{prefix}
 use Rattle.jbig2_coder.specs.inner.IntegerStates.{HasRead}
 use Rattle.jbig2_coder.proofs.Readings.{start_of, HasRead-start, integer-reading, integer-value, bit_number-one}

@@ -2,7 +2,8 @@ use Rattle.std.proofs.Common.{◌≡◌, ℕ, ◌+◌, ◌-◌, ◌*◌, ◌%◌
 use Rattle.std.proofs.Math.Nat.{pow-suc, pow-le-pow_right}
 use Rattle.jbig2_base.specs.Counts.{Counts}
 use Rattle.jbig2_coder.specs.Coder.{Coder, Decision, decision}
-use Rattle.jbig2_coder.specs.Integers.{Ids, Reading, read_more, value_of_bits}
+use Rattle.jbig2_coder.specs.Integers.{Ids, Reading, read_more}
+use Rattle.jbig2_base.specs.Bits.{value_of_bits}
 use Rattle.jbig2_coder.specs.inner.IntegerPrefixes.{place_of}
 use Rattle.jbig2_coder.specs.inner.IntegerStates.{HasRead}
 use Rattle.jbig2_coder.proofs.Readings.{start_of, HasRead-start, HasRead-decision, HasRead-read, HasRead-bytes, HasRead-id, read_more-none, read_more-next, number-push, id-length, id-place, id-below, one-shifted}

@@ -1,7 +1,7 @@
 use Rattle.std.proofs.Common.{◌≡◌, ℕ, ◌+◌, ◌-◌, ◌*◌, ◌/◌, ◌<◌, ◌≤◌, true, false, eqb, List, [], length, drop, refl, ap, sym, subst, ◌∙◌, arith}
 use Rattle.std.specs.Prelude.{◌||◌}
 use Rattle.std.proofs.lemmas.Bool.{eq-eqb, or_left, or_right}
-use Rattle.jbig2_base.proofs.LaneCounts.{lanes-none, lanes-then}
+use Rattle.jbig2_steps.proofs.LaneCounts.{lanes-none, lanes-then}
 use Rattle.jbig2_mmr.specs.T6.{row, ends_block, rows_of}
 use Rattle.jbig2_mmr.specs.inner.T6Reading.{Rest, after_end, row_above}
 use Rattle.jbig2_mmr.specs.inner.T6Calls.{ReadRow}

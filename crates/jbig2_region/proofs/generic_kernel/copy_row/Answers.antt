@@ -1,5 +1,5 @@
 use Rattle.std.proofs.Common.{arith, refl, min, true, subst, sym, ap, ◌≡◌, ◌+◌, ◌*◌, ℕ, ◌∙◌}
-use Rattle.jbig2_base.proofs.LaneCounts.{lanes-none}
+use Rattle.jbig2_steps.proofs.LaneCounts.{lanes-none}
 use Rattle.jbig2_base.specs.Counts.{Counts}
 use Rattle.jbig2_base.specs.Grid.{Grid}
 use Rattle.jbig2_region.specs.inner.Neighbours.{DecodesPixels}

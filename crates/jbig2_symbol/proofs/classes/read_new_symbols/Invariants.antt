@@ -3,7 +3,7 @@ use Rattle.jbig2_symbol.specs.HeightClasses.{classes_from, new_symbols}
 use Rattle.jbig2_symbol.specs.inner.SymbolViews.{input_view}
 use Rattle.jbig2_symbol.specs.inner.FunctionResults.{concat}
 use Rattle.jbig2_steps.specs.Work.{budget}
-use Rattle.jbig2_text.specs.Paying.{number_steps}
+use Rattle.jbig2_coder.specs.Integers.{number_steps}
 use Rattle.jbig2_symbol.proofs.classes.read_new_symbols.Given as goal
 
 abbrev pub invariant-loop : goal.invariant-loop

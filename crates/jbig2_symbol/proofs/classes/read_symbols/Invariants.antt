@@ -3,7 +3,7 @@ use Rattle.jbig2_symbol.specs.HeightClasses.{symbols_from}
 use Rattle.jbig2_symbol.specs.inner.SymbolViews.{input_view}
 use Rattle.jbig2_symbol.specs.inner.FunctionResults.{concat}
 use Rattle.jbig2_steps.specs.Work.{budget}
-use Rattle.jbig2_text.specs.Paying.{number_steps}
+use Rattle.jbig2_coder.specs.Integers.{number_steps}
 use Rattle.jbig2_symbol.proofs.classes.read_symbols.Given as goal
 
 abbrev pub invariant-loop-width : goal.invariant-loop-width

@@ -1,6 +1,6 @@
 use Rattle.std.proofs.Common.{◌≡◌, ◌+◌, ◌-◌, ◌*◌, ◌≤◌}
 use Rattle.jbig2_steps.specs.Work.{budget}
-use Rattle.jbig2_text.specs.Paying.{number_steps}
+use Rattle.jbig2_coder.specs.Integers.{number_steps}
 use Rattle.jbig2_text.specs.Text.{after_instances}
 use Rattle.jbig2_text.specs.inner.FunctionResults.{KeepsSize, reaching}
 use Rattle.jbig2_text.specs.inner.TextViews.{params_view}

@@ -1,7 +1,7 @@
 use Rattle.std.proofs.Common.{◌≡◌, ◌+◌, ◌*◌, length}
 use Rattle.jbig2_base.specs.Counts.{words_made}
 use Rattle.jbig2_halftone.specs.Steps.{TakesLanes, words_of_plane}
-use Rattle.jbig2_halftone.specs.WholeCells.{mmr_left}
+use Rattle.jbig2_halftone.specs.GrayScale.{mmr_left}
 use Rattle.jbig2_halftone.specs.inner.FunctionResults.{MovesByMmr}
 use Rattle.jbig2_halftone.specs.inner.GrayScaleViews.{gray_view}
 use Rattle.jbig2_halftone.proofs.gray_scale.whole_rows.count_mmr_rows.Given as goal

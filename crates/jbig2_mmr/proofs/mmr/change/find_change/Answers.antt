@@ -2,7 +2,7 @@ use Rattle.std.proofs.Common.{◌≡◌, ℕ, ◌+◌, ◌-◌, ◌*◌, ◌/◌
 use Rattle.jbig2_base.specs.Counts.{words_searched}
 use Rattle.std.specs.Int.Count.{count_leading_zeros}
 use Rattle.jbig2_base.proofs.CountLemmas.{loaded-as, loaded-more, loaded-none}
-use Rattle.jbig2_base.proofs.LaneCounts.{lanes-none, lanes-then}
+use Rattle.jbig2_steps.proofs.LaneCounts.{lanes-none, lanes-then}
 use Rattle.jbig2_mmr.proofs.T6Spans.{lanes-load}
 use Rattle.jbig2_mmr.specs.T6.{left_of}
 use Rattle.jbig2_mmr.specs.inner.T6Reading.{pixels_of_row}

@@ -8,7 +8,7 @@ use Rattle.jbig2_base.proofs.GridLemmas.{pixel_at-right}
 use Rattle.std.specs.Int.Count.{count_leading_zeros}
 use Rattle.jbig2_base.specs.Counts.{words_searched}
 use Rattle.jbig2_base.proofs.CountLemmas.{loaded-as, loaded-none}
-use Rattle.jbig2_base.proofs.LaneCounts.{lanes-none}
+use Rattle.jbig2_steps.proofs.LaneCounts.{lanes-none}
 use Rattle.jbig2_mmr.specs.declared.mmr.change.RowWord.{RowWord}
 use Rattle.jbig2_mmr.specs.T6.{b1_of, is_change_from, left_of}
 use Rattle.jbig2_mmr.specs.inner.T6Reading.{pixels_of_row}

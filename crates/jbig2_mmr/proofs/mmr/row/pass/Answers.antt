@@ -1,5 +1,5 @@
 use Rattle.std.proofs.Common.{◌≡◌, ℕ, ◌+◌, ◌≤◌, Bool, ap, sym, subst, arith}
-use Rattle.jbig2_base.proofs.LaneCounts.{lanes-then}
+use Rattle.jbig2_steps.proofs.LaneCounts.{lanes-then}
 use Rattle.jbig2_mmr.specs.declared.mmr.row.Turn.{Turn}
 use Rattle.jbig2_mmr.specs.T6.{b1_of}
 use Rattle.jbig2_mmr.specs.inner.T6Reading.{pixels_of_row}

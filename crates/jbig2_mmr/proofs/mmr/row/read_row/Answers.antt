@@ -1,6 +1,6 @@
 use Rattle.std.proofs.Common.{ℕ, ◌+◌, ◌-◌, Bool, not, false, length, refl, sym, ap, subst, ◌∙◌, arith}
 use Rattle.std.proofs.lemmas.Bool.{true≢false}
-use Rattle.jbig2_base.proofs.LaneCounts.{lanes-then}
+use Rattle.jbig2_steps.proofs.LaneCounts.{lanes-then}
 use Rattle.jbig2_mmr.specs.T6.{row}
 use Rattle.jbig2_mmr.specs.inner.T6Reading.{pixels_of_row, row_above, IsSpan}
 use Rattle.jbig2_mmr.specs.inner.T6Calls.{head_of, IsWordOf}

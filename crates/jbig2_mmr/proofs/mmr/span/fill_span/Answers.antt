@@ -1,5 +1,5 @@
 use Rattle.std.proofs.Common.{◌-◌, ◌/◌, arith}
-use Rattle.jbig2_base.proofs.LaneCounts.{lanes-then}
+use Rattle.jbig2_steps.proofs.LaneCounts.{lanes-then}
 use Rattle.jbig2_mmr.proofs.T6Spans.{span-more, lanes-word}
 use Rattle.jbig2_mmr.proofs.T6Steps.{moves-then, moves-word}
 use Rattle.jbig2_mmr.proofs.mmr.span.fill_span.Goals as goal

@@ -1,5 +1,5 @@
 use Rattle.std.proofs.Common.{arith, refl, true, false, ◌≡◌, ◌+◌, ◌-◌, ◌∙◌, ℕ, None, sym, ap, subst}
-use Rattle.jbig2_base.proofs.LaneCounts.{lanes-none, lanes-then}
+use Rattle.jbig2_steps.proofs.LaneCounts.{lanes-none, lanes-then}
 use Rattle.jbig2_base.specs.Counts.{Counts}
 use Rattle.jbig2_base.specs.Grid.{Grid, pixel_at}
 use Rattle.jbig2_base.specs.Bits.{bit}

@@ -1,6 +1,6 @@
 use Rattle.std.proofs.Common.{arith, refl, false, subst, ◌≡◌, ◌≤◌, ◌+◌, ◌*◌, ◌%◌, ◌^◌, ℕ, ◌∙◌}
 use Rattle.std.proofs.Math.Nat.{pow-le-pow_right}
-use Rattle.jbig2_base.proofs.LaneCounts.{lanes-none, lanes-then}
+use Rattle.jbig2_steps.proofs.LaneCounts.{lanes-none, lanes-then}
 use Rattle.jbig2_base.specs.Grid.{Grid}
 use Rattle.jbig2_base.specs.Writes.{with_pixels}
 use Rattle.jbig2_region.specs.inner.Neighbours.{DecodesPixels, nominal_pixels}

@@ -1,5 +1,5 @@
 use Rattle.std.proofs.Common.{rules, ◌≡◌, List, [], ◌++◌, map, refl, subst}
-use Rattle.jbig2_region.specs.Generic.{number_of}
+use Rattle.jbig2_base.specs.Bits.{number_of}
 use Rattle.jbig2_region.specs.Refinement.{nine, reference_pixel}
 use Rattle.jbig2_region.specs.inner.ReferenceViews.{reference_view}
 use Rattle.jbig2_region.specs.declared.template.AdaptiveTemplatePixel.{AdaptiveTemplatePixel}

@@ -1,5 +1,5 @@
 use Rattle.std.proofs.Common.{arith, ◌≡◌, ℕ, ◌+◌, ◌-◌, length, drop, map, get_or, ◌++◌, refl, ap, ◌∙◌}
-use Rattle.jbig2_region.specs.Generic.{number_of}
+use Rattle.jbig2_base.specs.Bits.{number_of}
 use Rattle.jbig2_region.specs.Refinement.{reference_pixel}
 use Rattle.jbig2_region.specs.inner.ReferenceViews.{reference_view}
 use Rattle.jbig2_region.specs.Templates.{right}

@@ -1,5 +1,5 @@
 use Rattle.std.proofs.Common.{arith, false, min, subst, ◌≡◌, ◌+◌, ◌*◌, ℕ}
-use Rattle.jbig2_base.proofs.LaneCounts.{lanes-none, lanes-then}
+use Rattle.jbig2_steps.proofs.LaneCounts.{lanes-none, lanes-then}
 use Rattle.jbig2_region.specs.Raster.{Coding}
 use Rattle.jbig2_region.specs.{inner.RegionViews.{skip_of}, Generic.{skipping_coding}}
 use Rattle.jbig2_region.specs.inner.Neighbours.{nominal_pixels}

@@ -1,6 +1,6 @@
 use Rattle.std.proofs.Common.{◌≡◌, ◌≤◌, ◌+◌, ◌-◌, length, drop}
 use Rattle.jbig2_region.specs.Generic.{context_at}
-use Rattle.jbig2_region.proofs.generic_coding.context_at.Given as goal
+use Rattle.jbig2_region.proofs.pixel_context.context_at.Given as goal
 
 abbrev pub invariant-loop-left : goal.invariant-loop-left
 invariant-loop-left g l = record {

@@ -2,7 +2,7 @@ use Rattle.std.proofs.Common.{◌≡◌, ℕ, ◌*◌, ◌∙◌, ap, length, ar
 use Rattle.jbig2_steps.specs.Work.{price_of_bitmap, budget}
 use Rattle.jbig2_page.proofs.Paying.{cells-taken}
 use Rattle.jbig2_coder.specs.CodeLength.{code_length}
-use Rattle.jbig2_page.proofs.region.halftone.pay_cells.Goals as goal
+use Rattle.jbig2_page.proofs.region.cell_price.pay_cells.Goals as goal
 
 pub returns-clause-taken : goal.returns-clause-taken
 returns-clause-taken g c =

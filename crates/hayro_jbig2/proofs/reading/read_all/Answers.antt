@@ -1,8 +1,8 @@
 use Rattle.std.proofs.Common.{◌≡◌, ℕ, ◌<◌, List, Option, arith, length, take, ◌++◌, sym, ap, subst, ◌∙◌}
 use Rattle.std.specs.Io.KnownBytes.{Consumes}
 use Rattle.hayro_jbig2.proofs.Consuming.{consumes-all, consumes-kept, consumes-more, consumes-none}
-use Rattle.hayro_jbig2.proofs.jbig2_decoder.reading.read_all.Goals as goal
-use Rattle.hayro_jbig2.proofs.jbig2_decoder.reading.read_all.Goals.{in-Ok+in_ok-extend_from_slice-in-Ok, in-Err+else-ne}
+use Rattle.hayro_jbig2.proofs.reading.read_all.Goals as goal
+use Rattle.hayro_jbig2.proofs.reading.read_all.Goals.{in-Ok+in_ok-extend_from_slice-in-Ok, in-Err+else-ne}
 
 pub returns-in-Ok-eq0-clause-bytes : goal.returns-in-Ok-eq0-clause-bytes
 returns-in-Ok-eq0-clause-bytes g c =

@@ -3,7 +3,7 @@ use Rattle.jbig2_region.specs.Generic.{context_at}
 use Rattle.jbig2_region.specs.Templates.{right}
 use Rattle.jbig2_region.proofs.ContextLemmas.{context-step, context-none, context-lt, context-small}
 use Rattle.jbig2_region.proofs.StepLemmas.{no-loads, more-loads}
-use Rattle.jbig2_region.proofs.generic_coding.context_at.Goals as goal
+use Rattle.jbig2_region.proofs.pixel_context.context_at.Goals as goal
 
 pub loop-left-init : goal.loop-left-init
 loop-left-init g c = record { within = omega arith; steps = no-loads _ _ (omega arith); value = context-none c.args.pixels.now c.args.bitmap.now c.args.x c.args.y }

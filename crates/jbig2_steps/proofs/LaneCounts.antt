@@ -1,6 +1,6 @@
 -- Counts of lanes and single pixels that stay.
 use Rattle.std.proofs.Common.{refl, ◌∙◌}
-use Rattle.jbig2_base.specs.Counts.{Counts, KeepsLanes}
+use Rattle.jbig2_steps.specs.Counts.{Counts, KeepsLanes}
 
 pub lanes-none : (s : Counts) → KeepsLanes s s
 lanes-none s = record { groups = refl; pixels = refl; cleared = refl }

@@ -1,6 +1,6 @@
 use Rattle.std.proofs.Common.{arith}
 use Rattle.jbig2_text.proofs.PayingLemmas.{made-worth, twice-paid}
-use Rattle.jbig2_text.proofs.decode.Goals as goal
+use Rattle.jbig2_text.proofs.decoding.decode.Goals as goal
 
 pub returns-in_err-bitmap-clause-paid : goal.returns-in_err-bitmap-clause-paid
 returns-in_err-bitmap-clause-paid g c =

@@ -13,7 +13,7 @@ use Rattle.jbig2_framing.specs.declared.reading.Reading.{Reading}
 use Rattle.jbig2_framing.specs.declared.reading.Reading.TheVariants.{Strict, Lenient, Salvage}
 use Rattle.jbig2_framing.specs.declared.segment.Segment.{Segment}
 use Rattle.jbig2_framing.proofs.Sequential.{Reads, Reads-as, begins, next, last, drops, gives_up, ends as ends_there, read-as, Refuses, at_place, refuses-begins, refuses-here, refuses-last, refuses-next, refuses-none}
-use Rattle.jbig2_framing.proofs.file.parse_segments_sequential.Goals as goal
+use Rattle.jbig2_framing.proofs.segment_list.parse_segments_sequential.Goals as goal
 
 abbrev read_by : Reading → List ℕ → Result (SegmentView × List ℕ) DecodeError
 read_by reading = segment_at (is_strict reading)

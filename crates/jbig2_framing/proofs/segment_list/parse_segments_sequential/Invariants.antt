@@ -5,7 +5,7 @@ use Rattle.jbig2_framing.specs.Segment.{SegmentView, segment_at}
 use Rattle.jbig2_framing.specs.inner.SegmentViews.{segment_views}
 use Rattle.jbig2_framing.specs.Sequential.{is_end_of_file, sequential}
 use Rattle.jbig2_framing.proofs.Sequential.{Reads, Refuses}
-use Rattle.jbig2_framing.proofs.file.parse_segments_sequential.Given as goal
+use Rattle.jbig2_framing.proofs.segment_list.parse_segments_sequential.Given as goal
 
 abbrev pub invariant-loop-reader : goal.invariant-loop-reader
 invariant-loop-reader g l = record {

@@ -1,7 +1,7 @@
 use Rattle.std.proofs.Common.{rules, arith, ◌≡◌, pos, ◌+ℤ◌, to_z, of_z, w16, w32}
 use Rattle.std.proofs.lemmas.Int.{ints}
 use mir.Val.{SFits}
-use Rattle.jbig2_region.proofs.generic_coding.pixel_near.Goals as goal
+use Rattle.jbig2_region.proofs.pixel_context.pixel_near.Goals as goal
 
 pub returns-clause-value : goal.returns-clause-value
 returns-clause-value g c =

@@ -2,7 +2,7 @@
 ghost use Rattle.std.specs.Prelude.{IfErr};
 ghost use Rattle.hayro_jbig2.specs.Readers.{ReadsAll, IsLasting};
 
-use crate::jbig2_decoder::jbig2_error::Jbig2Error;
+use crate::jbig2_error::Jbig2Error;
 use std::alloc::Allocator;
 use std::io;
 use std::io::{ErrorKind, Read};

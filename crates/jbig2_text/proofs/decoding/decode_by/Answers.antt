@@ -3,7 +3,7 @@ use Rattle.jbig2_text.specs.inner.TextViews.{header_view}
 use Rattle.jbig2_text.specs.TextRegion.{refining_of}
 use Rattle.jbig2_text.specs.inner.TextViews.{params_view, symbols_view}
 use Rattle.jbig2_text.proofs.RegionLemmas.{gives-part, region-is}
-use Rattle.jbig2_text.proofs.decode_by.Goals as goal
+use Rattle.jbig2_text.proofs.decoding.decode_by.Goals as goal
 
 pub returns-clause-value : goal.returns-clause-value
 returns-clause-value g c =

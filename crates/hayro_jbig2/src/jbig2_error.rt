@@ -1,7 +1,7 @@
 //! The errors of a decoder that takes its input from a reader.
 ghost use Rattle.std.specs.Prelude.{◌≡◌};
 ghost use Rattle.jbig2_base.specs.declared.error.DecodeError.TheVariants.{OutOfMemory};
-ghost use Rattle.hayro_jbig2.specs.declared.jbig2_decoder.jbig2_error.Jbig2Error.TheVariants.{Decode};
+ghost use Rattle.hayro_jbig2.specs.declared.jbig2_error.Jbig2Error.TheVariants.{Decode};
 
 use jbig2_base::error::DecodeError;
 use std::alloc::AllocError;
