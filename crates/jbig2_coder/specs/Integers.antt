@@ -4,13 +4,15 @@
 -- integer.
 use Rattle.std.specs.Prelude.{ℕ, suc, zero, ◌+◌, ◌-◌, ◌*◌, ◌%◌, ◌^◌, Bool, true, false, not, ◌&&◌, if◌then◌else◌, ◌==◌}
 use Rattle.std.specs.Prelude.{nat_lt, List, [], ◌∷◌, ◌++◌, length, drop, slice_index_or, slice_set, Some, None, Option}
-use Rattle.std.specs.Prelude.{ℤ, pos, ◌-ℤ◌, replicate}
+use Rattle.std.specs.Prelude.{ℤ, pos, ◌-ℤ◌, replicate, Result}
 use Rattle.jbig2_coder.specs.Coder.{Context, Decision, Registers, fresh, decision, Coder}
 use Rattle.jbig2_coder.specs.declared.integer_procedures.IntegerProcedure.{IntegerProcedure}
 use Rattle.jbig2_coder.specs.declared.integer_procedures.IntegerProcedure.TheVariants.{Iaai, Iadh, Iads, Iadt, Iadw}
 use Rattle.jbig2_coder.specs.declared.integer_procedures.IntegerProcedure.TheVariants.{Iaex, Iafs, Iait, Iardh, Iardw}
 use Rattle.jbig2_coder.specs.declared.integer_procedures.IntegerProcedure.TheVariants.{Iardx, Iardy, Iari}
 use Rattle.jbig2_base.specs.Bits.{value_of_bits}
+use Rattle.jbig2_base.specs.Results.{some_or}
+use Rattle.jbig2_base.specs.declared.error.DecodeError.{DecodeError}
 
 abbrev pub Reading : Type 0  -- the bits read so far, and the registers and the contexts after them
 Reading = record { bits : List Bool; registers : Registers; contexts : List Context }

@@ -26,7 +26,7 @@ module _ (p : GrayScale) where
       let start = no_pixels before.registers before.contexts in
       let coding = skipping_coding (template_pixels false p.template (nominal_adaptive_pixels p.template)) p.skip_mask in
       if p.bits_per_pixel == 0 || p.width == 0 then p.height
-      else if p.use_mmr then length (rows_of p.width p.height (mmr_left bytes count)).rows
+      else if p.use_mmr then length (rows_of p.width p.height (mmr_left p bytes count)).rows
       else whole_rows coding (source p.width p.height bytes start) p.height
 
 module _ (h : HalftoneHeader) (d : Patterns) where

@@ -9,7 +9,7 @@ use Rattle.jbig2_base.specs.declared.error.DecodeError.{DecodeError}
 use Rattle.jbig2_base.specs.declared.error.DecodeError.TheVariants.{Symbol}
 use Rattle.jbig2_base.specs.declared.error.SymbolError.TheVariants.{UnexpectedOob}
 use Rattle.jbig2_coder.specs.Coder.{Coder, fresh, initial_registers, is_within}
-use Rattle.jbig2_coder.specs.Integers.{Ids, id, Procedures, integer_by, fresh_procedures}
+use Rattle.jbig2_coder.specs.Integers.{Ids, id, Procedures, integer_by, fresh_procedures, in_band}
 use Rattle.jbig2_coder.specs.PrefixCode.{Member, decoded_value, value_at}
 use Rattle.jbig2_coder.specs.declared.integer_procedures.IntegerProcedure.{IntegerProcedure}
 use Rattle.jbig2_coder.specs.declared.integer_procedures.IntegerProcedure.TheVariants.{Iads, Iadt, Iafs, Iait, Iardh}

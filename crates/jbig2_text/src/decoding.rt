@@ -33,7 +33,7 @@ use std::alloc::Allocator;
 use std::sync::ledger::Ledger;
 
 /// What is needed to read and place the instances of a region.
-fn params_of<'a, A: Allocator>(
+pub(crate) fn params_of<'a, A: Allocator>(
     header: &TextRegionHeader<'_, A>,
     symbols: &'a [&'a Bitmap<A>],
 ) -> TextParams<'a, A>
@@ -65,7 +65,10 @@ fn pixels_of(
 }
 
 /// The refinements of a region's symbols, with fresh contexts.
-fn refining_of<A: Allocator>(alloc: A, header: &TextRegionHeader<'_, A>) -> Result<Refining<A>>
+pub(crate) fn refining_of<A: Allocator>(
+    alloc: A,
+    header: &TextRegionHeader<'_, A>,
+) -> Result<Refining<A>>
     ensures { Gives (λ r. r) result (Ok (refining_of (header_view header.now))) }
 {
     let flags = &header.flags;
@@ -74,7 +77,7 @@ fn refining_of<A: Allocator>(alloc: A, header: &TextRegionHeader<'_, A>) -> Resu
 }
 
 /// The coder at the start of a region's bytes, with fresh contexts.
-fn start_coded<'a, A: Allocator + Clone>(
+pub(crate) fn start_coded<'a, A: Allocator + Clone>(
     alloc: A,
     header: &TextRegionHeader<'a, A>,
     symbols: &[&Bitmap<A>],
@@ -87,7 +90,7 @@ fn start_coded<'a, A: Allocator + Clone>(
 }
 
 /// The prefix codes at the start of a region's bytes.
-fn start_prefixed<'a, 't, A: Allocator>(
+pub(crate) fn start_prefixed<'a, 't, A: Allocator>(
     header: &'t TextRegionHeader<'a, A>,
     numbers: &TextRegionHuffmanFlags,
     ids: &'t HuffmanTable<A>,

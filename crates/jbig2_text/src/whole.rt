@@ -10,14 +10,15 @@ ghost use Rattle.jbig2_text.specs.WholeInstances.{first_cursor, whole_by, whole_
 ghost use Rattle.jbig2_text.specs.inner.FunctionResults.{CountsAt, reaching};
 ghost use Rattle.jbig2_text.specs.inner.TextViews.{header_view, params_view, symbols_view};
 
+use crate::coordinates;
 use crate::cursor::Cursor;
+use crate::decoding::{params_of, refining_of, start_coded, start_prefixed};
 use crate::header::{TextRegionCoding, TextRegionFlags, TextRegionHeader};
 use crate::instances::{INSTANCES_PER_BYTE, draw_instance, is_too_many};
 use crate::params::TextParams;
 use crate::readings::ReadInstances;
 use crate::refining::Refining;
 use crate::strips::{begin_strip, move_on, read_strip_delta};
-use crate::{coordinates, params_of, refining_of, start_coded, start_prefixed};
 use jbig2_base::bitmap::{Bitmap, check_sides};
 use jbig2_base::error::{DecodeError, Result};
 use jbig2_coder::huffman_table::{HuffmanTable, StandardHuffmanTables};
