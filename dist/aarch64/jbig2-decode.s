@@ -5906,10 +5906,10 @@
 .Lfunc_end15:
 	.size	"std::io::stdio::StdoutWrite::write_all", .Lfunc_end15-"std::io::stdio::StdoutWrite::write_all"
 
-	.section	".text.jbig2_framing::file::parse_segments_sequential::<#61d4e6a79288078e>","ax",@progbits
+	.section	".text.jbig2_framing::segment_list::parse_segments_sequential::<#61d4e6a79288078e>","ax",@progbits
 	.p2align	2
-	.type	"jbig2_framing::file::parse_segments_sequential::<#61d4e6a79288078e>",@function
-"jbig2_framing::file::parse_segments_sequential::<#61d4e6a79288078e>":
+	.type	"jbig2_framing::segment_list::parse_segments_sequential::<#61d4e6a79288078e>",@function
+"jbig2_framing::segment_list::parse_segments_sequential::<#61d4e6a79288078e>":
 	stp	x29, x30, [sp, #-96]!
 	stp	x28, x27, [sp, #16]
 	mov	x29, sp
@@ -6427,7 +6427,7 @@
 	str	xzr, [x9, #120]
 	b	.LBB16_61
 .Lfunc_end16:
-	.size	"jbig2_framing::file::parse_segments_sequential::<#61d4e6a79288078e>", .Lfunc_end16-"jbig2_framing::file::parse_segments_sequential::<#61d4e6a79288078e>"
+	.size	"jbig2_framing::segment_list::parse_segments_sequential::<#61d4e6a79288078e>", .Lfunc_end16-"jbig2_framing::segment_list::parse_segments_sequential::<#61d4e6a79288078e>"
 
 	.section	".text.jbig2_framing::segment::parse_segment_header::<#33e85bb947bd81eb>","ax",@progbits
 	.p2align	2
@@ -34590,7 +34590,7 @@
 	add	x1, x1, #3424
 	add	x2, x11, #33
 	add	x3, x8, #48
-	bl	"jbig2_text::start_prefixed::<#33e85bb947bd81eb>"
+	bl	"jbig2_text::decoding::start_prefixed::<#33e85bb947bd81eb>"
 	ldrb	w8, [sp, #3616]
 	cbz	w8, .LBB95_287
 .LBB95_197:
@@ -35862,7 +35862,7 @@
 	stur	q1, [x11, #3]
 	stur	q0, [x11, #19]
 	str	x8, [sp, #8016]
-	bl	"jbig2_text::refining_of::<#33e85bb947bd81eb>"
+	bl	"jbig2_text::decoding::refining_of::<#33e85bb947bd81eb>"
 	add	x8, sp, #3536
 	ldrb	w8, [x8, #1184]
 	cbz	w8, .LBB95_360
@@ -36004,7 +36004,7 @@
 	stur	q1, [x11, #3]
 	stur	q0, [x11, #19]
 	str	x8, [sp, #8016]
-	bl	"jbig2_text::refining_of::<#33e85bb947bd81eb>"
+	bl	"jbig2_text::decoding::refining_of::<#33e85bb947bd81eb>"
 	add	x8, sp, #1, lsl #12
 	add	x8, x8, #624
 	ldrb	w8, [x8]
@@ -36725,10 +36725,10 @@
 .Lfunc_end96:
 	.size	"jbig2_text::symbol_codes::codes_of::<#61d4e6a79288078e>", .Lfunc_end96-"jbig2_text::symbol_codes::codes_of::<#61d4e6a79288078e>"
 
-	.section	".text.unlikely.jbig2_text::refining_of::<#33e85bb947bd81eb>","ax",@progbits
+	.section	".text.unlikely.jbig2_text::decoding::refining_of::<#33e85bb947bd81eb>","ax",@progbits
 	.p2align	2
-	.type	"jbig2_text::refining_of::<#33e85bb947bd81eb>",@function
-"jbig2_text::refining_of::<#33e85bb947bd81eb>":
+	.type	"jbig2_text::decoding::refining_of::<#33e85bb947bd81eb>",@function
+"jbig2_text::decoding::refining_of::<#33e85bb947bd81eb>":
 	sub	sp, sp, #128
 	ldrb	w8, [x1, #20]
 	stp	x20, x19, [sp, #112]
@@ -36813,7 +36813,7 @@
 	add	sp, sp, #128
 	ret
 .Lfunc_end97:
-	.size	"jbig2_text::refining_of::<#33e85bb947bd81eb>", .Lfunc_end97-"jbig2_text::refining_of::<#33e85bb947bd81eb>"
+	.size	"jbig2_text::decoding::refining_of::<#33e85bb947bd81eb>", .Lfunc_end97-"jbig2_text::decoding::refining_of::<#33e85bb947bd81eb>"
 
 	.section	".text.jbig2_text::whole::count_by::<#c5936e93b7f8db8d>","ax",@progbits
 	.p2align	2
@@ -37014,10 +37014,10 @@
 .Lfunc_end98:
 	.size	"jbig2_text::whole::count_by::<#c5936e93b7f8db8d>", .Lfunc_end98-"jbig2_text::whole::count_by::<#c5936e93b7f8db8d>"
 
-	.section	".text.jbig2_text::start_prefixed::<#33e85bb947bd81eb>","ax",@progbits
+	.section	".text.jbig2_text::decoding::start_prefixed::<#33e85bb947bd81eb>","ax",@progbits
 	.p2align	2
-	.type	"jbig2_text::start_prefixed::<#33e85bb947bd81eb>",@function
-"jbig2_text::start_prefixed::<#33e85bb947bd81eb>":
+	.type	"jbig2_text::decoding::start_prefixed::<#33e85bb947bd81eb>",@function
+"jbig2_text::decoding::start_prefixed::<#33e85bb947bd81eb>":
 	ldrb	w8, [x2]
 	cbz	w8, .LBB99_13
 	cmp	w8, #3
@@ -37215,7 +37215,7 @@
 	stur	q0, [x0, #88]
 	ret
 .Lfunc_end99:
-	.size	"jbig2_text::start_prefixed::<#33e85bb947bd81eb>", .Lfunc_end99-"jbig2_text::start_prefixed::<#33e85bb947bd81eb>"
+	.size	"jbig2_text::decoding::start_prefixed::<#33e85bb947bd81eb>", .Lfunc_end99-"jbig2_text::decoding::start_prefixed::<#33e85bb947bd81eb>"
 
 	.section	".text.jbig2_text::whole::count_by::<#86103606aa0effe3>","ax",@progbits
 	.p2align	2
@@ -41280,7 +41280,7 @@
 	add	x2, x22, #41
 	add	x3, x22, #56
 	mov	x4, x8
-	bl	"jbig2_text::start_prefixed::<#33e85bb947bd81eb>"
+	bl	"jbig2_text::decoding::start_prefixed::<#33e85bb947bd81eb>"
 	ldrb	w8, [sp, #112]
 	cbz	w8, .LBB111_40
 	ldurh	w8, [sp, #113]
@@ -41526,7 +41526,7 @@
 	stp	q0, q1, [x27, #128]
 	ldur	q0, [sp, #152]
 	stp	q0, q2, [x27, #160]
-	bl	"jbig2_text::decode_by::<#86103606aa0effe3>"
+	bl	"jbig2_text::decoding::decode_by::<#86103606aa0effe3>"
 	b	.LBB111_50
 .LBB111_41:
 	ldp	q0, q1, [x27, #48]
@@ -41552,7 +41552,7 @@
 	sturb	w9, [x29, #-254]
 	stur	q1, [x26, #19]
 	stur	q0, [x26, #35]
-	bl	"jbig2_text::decode_by::<#c5936e93b7f8db8d>"
+	bl	"jbig2_text::decoding::decode_by::<#c5936e93b7f8db8d>"
 	ldp	x21, x20, [x26, #56]
 	ldr	x22, [x26, #72]
 	cbz	x20, .LBB111_46
@@ -41600,10 +41600,10 @@
 .Lfunc_end111:
 	.size	"jbig2_page::region::parsed_region::ParsedRegion::decode_into::<#85bb0a3982815f2d>", .Lfunc_end111-"jbig2_page::region::parsed_region::ParsedRegion::decode_into::<#85bb0a3982815f2d>"
 
-	.section	".text.unlikely.jbig2_text::decode_by::<#c5936e93b7f8db8d>","ax",@progbits
+	.section	".text.unlikely.jbig2_text::decoding::decode_by::<#c5936e93b7f8db8d>","ax",@progbits
 	.p2align	2
-	.type	"jbig2_text::decode_by::<#c5936e93b7f8db8d>",@function
-"jbig2_text::decode_by::<#c5936e93b7f8db8d>":
+	.type	"jbig2_text::decoding::decode_by::<#c5936e93b7f8db8d>",@function
+"jbig2_text::decoding::decode_by::<#c5936e93b7f8db8d>":
 	sub	sp, sp, #256
 	movi	v0.2d, #0000000000000000
 	stp	x29, x30, [sp, #176]
@@ -41626,7 +41626,7 @@
 	stp	xzr, xzr, [x29, #-56]
 	stp	q0, q0, [sp]
 	str	q0, [sp, #32]
-	bl	"jbig2_text::refining_of::<#33e85bb947bd81eb>"
+	bl	"jbig2_text::decoding::refining_of::<#33e85bb947bd81eb>"
 	ldrb	w8, [sp]
 	cbz	w8, .LBB112_2
 	ldurh	w8, [sp, #1]
@@ -41684,12 +41684,12 @@
 	add	sp, sp, #256
 	ret
 .Lfunc_end112:
-	.size	"jbig2_text::decode_by::<#c5936e93b7f8db8d>", .Lfunc_end112-"jbig2_text::decode_by::<#c5936e93b7f8db8d>"
+	.size	"jbig2_text::decoding::decode_by::<#c5936e93b7f8db8d>", .Lfunc_end112-"jbig2_text::decoding::decode_by::<#c5936e93b7f8db8d>"
 
-	.section	".text.unlikely.jbig2_text::decode_by::<#86103606aa0effe3>","ax",@progbits
+	.section	".text.unlikely.jbig2_text::decoding::decode_by::<#86103606aa0effe3>","ax",@progbits
 	.p2align	2
-	.type	"jbig2_text::decode_by::<#86103606aa0effe3>",@function
-"jbig2_text::decode_by::<#86103606aa0effe3>":
+	.type	"jbig2_text::decoding::decode_by::<#86103606aa0effe3>",@function
+"jbig2_text::decoding::decode_by::<#86103606aa0effe3>":
 	sub	sp, sp, #256
 	movi	v0.2d, #0000000000000000
 	stp	x29, x30, [sp, #176]
@@ -41712,7 +41712,7 @@
 	stp	xzr, xzr, [x29, #-56]
 	stp	q0, q0, [sp]
 	str	q0, [sp, #32]
-	bl	"jbig2_text::refining_of::<#33e85bb947bd81eb>"
+	bl	"jbig2_text::decoding::refining_of::<#33e85bb947bd81eb>"
 	ldrb	w8, [sp]
 	cbz	w8, .LBB113_2
 	ldurh	w8, [sp, #1]
@@ -41770,7 +41770,7 @@
 	add	sp, sp, #256
 	ret
 .Lfunc_end113:
-	.size	"jbig2_text::decode_by::<#86103606aa0effe3>", .Lfunc_end113-"jbig2_text::decode_by::<#86103606aa0effe3>"
+	.size	"jbig2_text::decoding::decode_by::<#86103606aa0effe3>", .Lfunc_end113-"jbig2_text::decoding::decode_by::<#86103606aa0effe3>"
 
 	.section	".text.jbig2_page::region::parsed_region::ParsedRegion::drop::<#33e85bb947bd81eb>","ax",@progbits
 	.p2align	2
@@ -43780,7 +43780,7 @@
 	b	.LBB119_28
 .LBB119_31:
 	add	x0, sp, #1792
-	bl	"jbig2_framing::file::parse_segments_sequential::<#61d4e6a79288078e>"
+	bl	"jbig2_framing::segment_list::parse_segments_sequential::<#61d4e6a79288078e>"
 	ldrb	w9, [sp, #1848]
 	ldrb	w8, [sp, #1792]
 	add	x16, sp, #1344
@@ -49524,7 +49524,7 @@ main:
 	str	q0, [sp, #4400]
 	stp	xzr, xzr, [sp, #128]
 	str	wzr, [sp, #144]
-	bl	"jbig2_framing::file::parse_segments_sequential::<#61d4e6a79288078e>"
+	bl	"jbig2_framing::segment_list::parse_segments_sequential::<#61d4e6a79288078e>"
 	ldrb	w8, [x28]
 	cbz	w8, .LBB134_226
 	ldrb	w19, [x28, #2]

@@ -2192,7 +2192,7 @@
 	stp	xzr, xzr, [sp, #32]
 	str	wzr, [sp, #24]
 	strb	wzr, [sp, #28]
-	bl	"jbig2_framing::file::parse_segments_sequential::<#292692cd0634e4a9>"
+	bl	"jbig2_framing::segment_list::parse_segments_sequential::<#292692cd0634e4a9>"
 	ldrb	w8, [sp, #80]
 	cbz	w8, .LBB12_2
 	movi	v0.2d, #0000000000000000
@@ -2436,10 +2436,10 @@
 .Lfunc_end12:
 	.size	"jbig2_page::page::PageContent::read::<#292692cd0634e4a9>", .Lfunc_end12-"jbig2_page::page::PageContent::read::<#292692cd0634e4a9>"
 
-	.section	".text.jbig2_framing::file::parse_segments_sequential::<#292692cd0634e4a9>","ax",@progbits
+	.section	".text.jbig2_framing::segment_list::parse_segments_sequential::<#292692cd0634e4a9>","ax",@progbits
 	.p2align	2
-	.type	"jbig2_framing::file::parse_segments_sequential::<#292692cd0634e4a9>",@function
-"jbig2_framing::file::parse_segments_sequential::<#292692cd0634e4a9>":
+	.type	"jbig2_framing::segment_list::parse_segments_sequential::<#292692cd0634e4a9>",@function
+"jbig2_framing::segment_list::parse_segments_sequential::<#292692cd0634e4a9>":
 	stp	x29, x30, [sp, #-96]!
 	stp	x28, x27, [sp, #16]
 	mov	x29, sp
@@ -3010,7 +3010,7 @@
 	str	xzr, [x9, #136]
 	b	.LBB13_25
 .Lfunc_end13:
-	.size	"jbig2_framing::file::parse_segments_sequential::<#292692cd0634e4a9>", .Lfunc_end13-"jbig2_framing::file::parse_segments_sequential::<#292692cd0634e4a9>"
+	.size	"jbig2_framing::segment_list::parse_segments_sequential::<#292692cd0634e4a9>", .Lfunc_end13-"jbig2_framing::segment_list::parse_segments_sequential::<#292692cd0634e4a9>"
 
 	.section	".text.jbig2_framing::segment::parse_segment_header::<#7cb7c16381135986>","ax",@progbits
 	.p2align	2
@@ -9590,7 +9590,7 @@
 	ldr	w4, [sp, #216]
 	sub	x0, x29, #240
 	mov	x1, x19
-	bl	"jbig2_framing::file::parse_segments_sequential::<#292692cd0634e4a9>"
+	bl	"jbig2_framing::segment_list::parse_segments_sequential::<#292692cd0634e4a9>"
 	ldurb	w9, [x29, #-239]
 	ldurb	w8, [x29, #-240]
 	add	x12, sp, #1128
@@ -36733,7 +36733,7 @@
 	add	x8, sp, #2, lsl #12
 	add	x8, x8, #3792
 	add	x3, x8, #48
-	bl	"jbig2_text::start_prefixed::<#7cb7c16381135986>"
+	bl	"jbig2_text::decoding::start_prefixed::<#7cb7c16381135986>"
 	ldrb	w8, [x19, #1104]
 	cbz	w8, .LBB103_311
 .LBB103_172:
@@ -38188,7 +38188,7 @@
 	stur	q2, [x11, #3]
 	stur	q0, [x11, #19]
 	stur	q1, [x8, #255]
-	bl	"jbig2_text::refining_of::<#7cb7c16381135986>"
+	bl	"jbig2_text::decoding::refining_of::<#7cb7c16381135986>"
 	ldrb	w8, [x20, #1120]
 	cbz	w8, .LBB103_372
 	add	x9, sp, #3840
@@ -38289,7 +38289,7 @@
 	stur	q2, [x11, #3]
 	stur	q0, [x11, #19]
 	stur	q1, [x8, #255]
-	bl	"jbig2_text::refining_of::<#7cb7c16381135986>"
+	bl	"jbig2_text::decoding::refining_of::<#7cb7c16381135986>"
 	ldrb	w8, [x19]
 	cbz	w8, .LBB103_392
 	ldr	x8, [sp, #8312]
@@ -38683,10 +38683,10 @@
 .Lfunc_end104:
 	.size	"jbig2_text::symbol_codes::codes_of::<#292692cd0634e4a9>", .Lfunc_end104-"jbig2_text::symbol_codes::codes_of::<#292692cd0634e4a9>"
 
-	.section	".text.unlikely.jbig2_text::refining_of::<#7cb7c16381135986>","ax",@progbits
+	.section	".text.unlikely.jbig2_text::decoding::refining_of::<#7cb7c16381135986>","ax",@progbits
 	.p2align	2
-	.type	"jbig2_text::refining_of::<#7cb7c16381135986>",@function
-"jbig2_text::refining_of::<#7cb7c16381135986>":
+	.type	"jbig2_text::decoding::refining_of::<#7cb7c16381135986>",@function
+"jbig2_text::decoding::refining_of::<#7cb7c16381135986>":
 	sub	sp, sp, #144
 	movi	v0.2d, #0000000000000000
 	ldrb	w8, [x2, #20]
@@ -38772,7 +38772,7 @@
 	add	sp, sp, #144
 	ret
 .Lfunc_end105:
-	.size	"jbig2_text::refining_of::<#7cb7c16381135986>", .Lfunc_end105-"jbig2_text::refining_of::<#7cb7c16381135986>"
+	.size	"jbig2_text::decoding::refining_of::<#7cb7c16381135986>", .Lfunc_end105-"jbig2_text::decoding::refining_of::<#7cb7c16381135986>"
 
 	.section	".text.jbig2_text::whole::count_by::<#ed48865aee30d4fd>","ax",@progbits
 	.p2align	2
@@ -38973,10 +38973,10 @@
 .Lfunc_end106:
 	.size	"jbig2_text::whole::count_by::<#ed48865aee30d4fd>", .Lfunc_end106-"jbig2_text::whole::count_by::<#ed48865aee30d4fd>"
 
-	.section	".text.jbig2_text::start_prefixed::<#7cb7c16381135986>","ax",@progbits
+	.section	".text.jbig2_text::decoding::start_prefixed::<#7cb7c16381135986>","ax",@progbits
 	.p2align	2
-	.type	"jbig2_text::start_prefixed::<#7cb7c16381135986>",@function
-"jbig2_text::start_prefixed::<#7cb7c16381135986>":
+	.type	"jbig2_text::decoding::start_prefixed::<#7cb7c16381135986>",@function
+"jbig2_text::decoding::start_prefixed::<#7cb7c16381135986>":
 	ldrb	w8, [x2]
 	cbz	w8, .LBB107_13
 	cmp	w8, #3
@@ -39174,7 +39174,7 @@
 	stur	q0, [x0, #88]
 	ret
 .Lfunc_end107:
-	.size	"jbig2_text::start_prefixed::<#7cb7c16381135986>", .Lfunc_end107-"jbig2_text::start_prefixed::<#7cb7c16381135986>"
+	.size	"jbig2_text::decoding::start_prefixed::<#7cb7c16381135986>", .Lfunc_end107-"jbig2_text::decoding::start_prefixed::<#7cb7c16381135986>"
 
 	.section	".text.jbig2_text::whole::count_by::<#214decd045c1e4b5>","ax",@progbits
 	.p2align	2
@@ -43362,7 +43362,7 @@
 	add	x2, x22, #41
 	add	x3, x22, #56
 	mov	x4, x8
-	bl	"jbig2_text::start_prefixed::<#7cb7c16381135986>"
+	bl	"jbig2_text::decoding::start_prefixed::<#7cb7c16381135986>"
 	ldrb	w8, [sp, #112]
 	cbz	w8, .LBB119_40
 	ldurh	w8, [sp, #113]
@@ -43614,7 +43614,7 @@
 	ldur	q0, [sp, #152]
 	str	x8, [x28, #240]
 	stp	q0, q2, [x28, #176]
-	bl	"jbig2_text::decode_by::<#214decd045c1e4b5>"
+	bl	"jbig2_text::decoding::decode_by::<#214decd045c1e4b5>"
 	b	.LBB119_50
 .LBB119_41:
 	ldp	q0, q1, [x28, #64]
@@ -43644,7 +43644,7 @@
 	strh	w8, [sp, #480]
 	strb	w9, [sp, #482]
 	stur	q2, [x27, #51]
-	bl	"jbig2_text::decode_by::<#ed48865aee30d4fd>"
+	bl	"jbig2_text::decoding::decode_by::<#ed48865aee30d4fd>"
 	ldp	x21, x23, [x27, #56]
 	ldp	x20, x22, [x27, #72]
 	cbz	x23, .LBB119_46
@@ -43697,10 +43697,10 @@
 .Lfunc_end119:
 	.size	"jbig2_page::region::parsed_region::ParsedRegion::decode_into::<#0a63fd5d1dec2a0c>", .Lfunc_end119-"jbig2_page::region::parsed_region::ParsedRegion::decode_into::<#0a63fd5d1dec2a0c>"
 
-	.section	".text.unlikely.jbig2_text::decode_by::<#ed48865aee30d4fd>","ax",@progbits
+	.section	".text.unlikely.jbig2_text::decoding::decode_by::<#ed48865aee30d4fd>","ax",@progbits
 	.p2align	2
-	.type	"jbig2_text::decode_by::<#ed48865aee30d4fd>",@function
-"jbig2_text::decode_by::<#ed48865aee30d4fd>":
+	.type	"jbig2_text::decoding::decode_by::<#ed48865aee30d4fd>",@function
+"jbig2_text::decoding::decode_by::<#ed48865aee30d4fd>":
 	sub	sp, sp, #288
 	movi	v0.2d, #0000000000000000
 	stp	x29, x30, [sp, #192]
@@ -43725,7 +43725,7 @@
 	stp	q0, q0, [sp]
 	str	q0, [sp, #32]
 	str	xzr, [sp, #48]
-	bl	"jbig2_text::refining_of::<#7cb7c16381135986>"
+	bl	"jbig2_text::decoding::refining_of::<#7cb7c16381135986>"
 	ldrb	w8, [sp]
 	cbz	w8, .LBB120_2
 	ldurh	w8, [sp, #1]
@@ -43784,12 +43784,12 @@
 	add	sp, sp, #288
 	ret
 .Lfunc_end120:
-	.size	"jbig2_text::decode_by::<#ed48865aee30d4fd>", .Lfunc_end120-"jbig2_text::decode_by::<#ed48865aee30d4fd>"
+	.size	"jbig2_text::decoding::decode_by::<#ed48865aee30d4fd>", .Lfunc_end120-"jbig2_text::decoding::decode_by::<#ed48865aee30d4fd>"
 
-	.section	".text.unlikely.jbig2_text::decode_by::<#214decd045c1e4b5>","ax",@progbits
+	.section	".text.unlikely.jbig2_text::decoding::decode_by::<#214decd045c1e4b5>","ax",@progbits
 	.p2align	2
-	.type	"jbig2_text::decode_by::<#214decd045c1e4b5>",@function
-"jbig2_text::decode_by::<#214decd045c1e4b5>":
+	.type	"jbig2_text::decoding::decode_by::<#214decd045c1e4b5>",@function
+"jbig2_text::decoding::decode_by::<#214decd045c1e4b5>":
 	sub	sp, sp, #288
 	movi	v0.2d, #0000000000000000
 	stp	x29, x30, [sp, #192]
@@ -43814,7 +43814,7 @@
 	stp	q0, q0, [sp]
 	str	q0, [sp, #32]
 	str	xzr, [sp, #48]
-	bl	"jbig2_text::refining_of::<#7cb7c16381135986>"
+	bl	"jbig2_text::decoding::refining_of::<#7cb7c16381135986>"
 	ldrb	w8, [sp]
 	cbz	w8, .LBB121_2
 	ldurh	w8, [sp, #1]
@@ -43873,7 +43873,7 @@
 	add	sp, sp, #288
 	ret
 .Lfunc_end121:
-	.size	"jbig2_text::decode_by::<#214decd045c1e4b5>", .Lfunc_end121-"jbig2_text::decode_by::<#214decd045c1e4b5>"
+	.size	"jbig2_text::decoding::decode_by::<#214decd045c1e4b5>", .Lfunc_end121-"jbig2_text::decoding::decode_by::<#214decd045c1e4b5>"
 
 	.section	".text.jbig2_page::region::parsed_region::ParsedRegion::drop::<#7cb7c16381135986>","ax",@progbits
 	.p2align	2
@@ -45253,7 +45253,7 @@
 	str	q0, [sp, #576]
 	strb	wzr, [sp, #446]
 	strh	wzr, [sp, #444]
-	bl	"jbig2_framing::file::parse_segments_sequential::<#292692cd0634e4a9>"
+	bl	"jbig2_framing::segment_list::parse_segments_sequential::<#292692cd0634e4a9>"
 	ldrb	w8, [sp, #448]
 	cbz	w8, .LBB126_2
 	movi	v0.2d, #0000000000000000

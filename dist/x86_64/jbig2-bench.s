@@ -10695,7 +10695,7 @@
 	movq	%r12, %rdx
 	movq	%r14, %rcx
 	movq	%r15, %r8
-	callq	"jbig2_rows::salvage::salvages::<#98122509696db2bb>"
+	callq	"jbig2_rows::drawing::salvages::<#98122509696db2bb>"
 	movzbl	9(%rsp), %ebp
 	cmpb	$0, 8(%rsp)
 	je	.LBB25_39
@@ -10789,7 +10789,7 @@
 	movb	$0, 24(%rsp)
 	leaq	224(%rsp), %rdi
 	movl	%r9d, %ecx
-	callq	"jbig2_framing::file::parse_segments_sequential::<#98122509696db2bb>"
+	callq	"jbig2_framing::segment_list::parse_segments_sequential::<#98122509696db2bb>"
 	cmpb	$0, 224(%rsp)
 	je	.LBB26_1
 	movzwl	225(%rsp), %eax
@@ -11033,10 +11033,10 @@
 .Lfunc_end26:
 	.size	"jbig2_page::page::PageContent::read::<#98122509696db2bb>", .Lfunc_end26-"jbig2_page::page::PageContent::read::<#98122509696db2bb>"
 
-	.section	".text.jbig2_framing::file::parse_segments_sequential::<#98122509696db2bb>","ax",@progbits
+	.section	".text.jbig2_framing::segment_list::parse_segments_sequential::<#98122509696db2bb>","ax",@progbits
 	.p2align	4
-	.type	"jbig2_framing::file::parse_segments_sequential::<#98122509696db2bb>",@function
-"jbig2_framing::file::parse_segments_sequential::<#98122509696db2bb>":
+	.type	"jbig2_framing::segment_list::parse_segments_sequential::<#98122509696db2bb>",@function
+"jbig2_framing::segment_list::parse_segments_sequential::<#98122509696db2bb>":
 	pushq	%rbp
 	pushq	%r15
 	pushq	%r14
@@ -11600,7 +11600,7 @@
 	movq	$0, 120(%rax)
 	jmp	.LBB27_70
 .Lfunc_end27:
-	.size	"jbig2_framing::file::parse_segments_sequential::<#98122509696db2bb>", .Lfunc_end27-"jbig2_framing::file::parse_segments_sequential::<#98122509696db2bb>"
+	.size	"jbig2_framing::segment_list::parse_segments_sequential::<#98122509696db2bb>", .Lfunc_end27-"jbig2_framing::segment_list::parse_segments_sequential::<#98122509696db2bb>"
 
 	.section	".text.jbig2_framing::segment::parse_segment_header::<#321cb2bbcfc5bcf0>","ax",@progbits
 	.p2align	4
@@ -43425,7 +43425,7 @@
 	leaq	9696(%rsp), %rdi
 	leaq	1728(%rsp), %rsi
 	movq	48(%rsp), %r8
-	callq	"jbig2_text::start_prefixed::<#321cb2bbcfc5bcf0>"
+	callq	"jbig2_text::decoding::start_prefixed::<#321cb2bbcfc5bcf0>"
 	cmpb	$0, 9696(%rsp)
 	je	.LBB100_322
 .LBB100_176:
@@ -44841,7 +44841,7 @@
 	movq	%rax, 240(%rsp)
 	leaq	8608(%rsp), %rdi
 	leaq	1728(%rsp), %rsi
-	callq	"jbig2_text::refining_of::<#321cb2bbcfc5bcf0>"
+	callq	"jbig2_text::decoding::refining_of::<#321cb2bbcfc5bcf0>"
 	cmpb	$0, 8608(%rsp)
 	je	.LBB100_402
 	movzbl	8609(%rsp), %eax
@@ -44978,7 +44978,7 @@
 	movq	%rax, 240(%rsp)
 	leaq	8608(%rsp), %rdi
 	leaq	1728(%rsp), %rsi
-	callq	"jbig2_text::refining_of::<#321cb2bbcfc5bcf0>"
+	callq	"jbig2_text::decoding::refining_of::<#321cb2bbcfc5bcf0>"
 	cmpb	$0, 8608(%rsp)
 	je	.LBB100_407
 	movzbl	8609(%rsp), %eax
@@ -45272,10 +45272,10 @@
 .Lfunc_end101:
 	.size	"jbig2_text::symbol_codes::codes_of::<#98122509696db2bb>", .Lfunc_end101-"jbig2_text::symbol_codes::codes_of::<#98122509696db2bb>"
 
-	.section	".text.unlikely.jbig2_text::refining_of::<#321cb2bbcfc5bcf0>","ax",@progbits
+	.section	".text.unlikely.jbig2_text::decoding::refining_of::<#321cb2bbcfc5bcf0>","ax",@progbits
 	.p2align	4
-	.type	"jbig2_text::refining_of::<#321cb2bbcfc5bcf0>",@function
-"jbig2_text::refining_of::<#321cb2bbcfc5bcf0>":
+	.type	"jbig2_text::decoding::refining_of::<#321cb2bbcfc5bcf0>",@function
+"jbig2_text::decoding::refining_of::<#321cb2bbcfc5bcf0>":
 	pushq	%rbp
 	pushq	%r15
 	pushq	%r14
@@ -45373,7 +45373,7 @@
 	popq	%rbp
 	retq
 .Lfunc_end102:
-	.size	"jbig2_text::refining_of::<#321cb2bbcfc5bcf0>", .Lfunc_end102-"jbig2_text::refining_of::<#321cb2bbcfc5bcf0>"
+	.size	"jbig2_text::decoding::refining_of::<#321cb2bbcfc5bcf0>", .Lfunc_end102-"jbig2_text::decoding::refining_of::<#321cb2bbcfc5bcf0>"
 
 	.section	".text.jbig2_text::whole::count_by::<#ce8c49591eada16d>","ax",@progbits
 	.p2align	4
@@ -45599,10 +45599,10 @@
 .Lfunc_end103:
 	.size	"jbig2_text::whole::count_by::<#ce8c49591eada16d>", .Lfunc_end103-"jbig2_text::whole::count_by::<#ce8c49591eada16d>"
 
-	.section	".text.jbig2_text::start_prefixed::<#321cb2bbcfc5bcf0>","ax",@progbits
+	.section	".text.jbig2_text::decoding::start_prefixed::<#321cb2bbcfc5bcf0>","ax",@progbits
 	.p2align	4
-	.type	"jbig2_text::start_prefixed::<#321cb2bbcfc5bcf0>",@function
-"jbig2_text::start_prefixed::<#321cb2bbcfc5bcf0>":
+	.type	"jbig2_text::decoding::start_prefixed::<#321cb2bbcfc5bcf0>",@function
+"jbig2_text::decoding::start_prefixed::<#321cb2bbcfc5bcf0>":
 	pushq	%rbp
 	pushq	%r15
 	pushq	%r14
@@ -45838,7 +45838,7 @@
 	popq	%rbp
 	retq
 .Lfunc_end104:
-	.size	"jbig2_text::start_prefixed::<#321cb2bbcfc5bcf0>", .Lfunc_end104-"jbig2_text::start_prefixed::<#321cb2bbcfc5bcf0>"
+	.size	"jbig2_text::decoding::start_prefixed::<#321cb2bbcfc5bcf0>", .Lfunc_end104-"jbig2_text::decoding::start_prefixed::<#321cb2bbcfc5bcf0>"
 
 	.section	".text.jbig2_text::whole::count_by::<#412541cfc16ccc23>","ax",@progbits
 	.p2align	4
@@ -50273,7 +50273,7 @@
 	movq	%rbp, %rsi
 	movq	%r12, %rcx
 	movq	%rax, %r8
-	callq	"jbig2_text::start_prefixed::<#321cb2bbcfc5bcf0>"
+	callq	"jbig2_text::decoding::start_prefixed::<#321cb2bbcfc5bcf0>"
 	cmpb	$0, 272(%rsp)
 	je	.LBB116_16
 	movzwl	273(%rsp), %eax
@@ -50543,7 +50543,7 @@
 	movq	32(%rsp), %rcx
 	movq	%r13, %r8
 	movq	16(%rsp), %r9
-	callq	"jbig2_text::decode_by::<#412541cfc16ccc23>"
+	callq	"jbig2_text::decoding::decode_by::<#412541cfc16ccc23>"
 	jmp	.LBB116_17
 .LBB116_5:
 	movq	%r14, 40(%rsp)
@@ -50570,7 +50570,7 @@
 	movq	32(%rsp), %rcx
 	movq	%r13, %r8
 	movq	16(%rsp), %r9
-	callq	"jbig2_text::decode_by::<#ce8c49591eada16d>"
+	callq	"jbig2_text::decoding::decode_by::<#ce8c49591eada16d>"
 	movq	440(%rsp), %r15
 	movq	448(%rsp), %r14
 	movq	456(%rsp), %rbx
@@ -50623,10 +50623,10 @@
 	.long	.LBB116_46-.LJTI116_0
 	.long	.LBB116_48-.LJTI116_0
 
-	.section	".text.unlikely.jbig2_text::decode_by::<#ce8c49591eada16d>","ax",@progbits
+	.section	".text.unlikely.jbig2_text::decoding::decode_by::<#ce8c49591eada16d>","ax",@progbits
 	.p2align	4
-	.type	"jbig2_text::decode_by::<#ce8c49591eada16d>",@function
-"jbig2_text::decode_by::<#ce8c49591eada16d>":
+	.type	"jbig2_text::decoding::decode_by::<#ce8c49591eada16d>",@function
+"jbig2_text::decoding::decode_by::<#ce8c49591eada16d>":
 	pushq	%rbp
 	pushq	%r15
 	pushq	%r14
@@ -50649,7 +50649,7 @@
 	movaps	%xmm0, 48(%rsp)
 	leaq	16(%rsp), %rdi
 	movq	%rdx, %rsi
-	callq	"jbig2_text::refining_of::<#321cb2bbcfc5bcf0>"
+	callq	"jbig2_text::decoding::refining_of::<#321cb2bbcfc5bcf0>"
 	cmpb	$0, 16(%rsp)
 	je	.LBB117_1
 	movzwl	17(%rsp), %eax
@@ -50711,12 +50711,12 @@
 	popq	%rbp
 	retq
 .Lfunc_end117:
-	.size	"jbig2_text::decode_by::<#ce8c49591eada16d>", .Lfunc_end117-"jbig2_text::decode_by::<#ce8c49591eada16d>"
+	.size	"jbig2_text::decoding::decode_by::<#ce8c49591eada16d>", .Lfunc_end117-"jbig2_text::decoding::decode_by::<#ce8c49591eada16d>"
 
-	.section	".text.unlikely.jbig2_text::decode_by::<#412541cfc16ccc23>","ax",@progbits
+	.section	".text.unlikely.jbig2_text::decoding::decode_by::<#412541cfc16ccc23>","ax",@progbits
 	.p2align	4
-	.type	"jbig2_text::decode_by::<#412541cfc16ccc23>",@function
-"jbig2_text::decode_by::<#412541cfc16ccc23>":
+	.type	"jbig2_text::decoding::decode_by::<#412541cfc16ccc23>",@function
+"jbig2_text::decoding::decode_by::<#412541cfc16ccc23>":
 	pushq	%rbp
 	pushq	%r15
 	pushq	%r14
@@ -50739,7 +50739,7 @@
 	movaps	%xmm0, 48(%rsp)
 	leaq	16(%rsp), %rdi
 	movq	%rdx, %rsi
-	callq	"jbig2_text::refining_of::<#321cb2bbcfc5bcf0>"
+	callq	"jbig2_text::decoding::refining_of::<#321cb2bbcfc5bcf0>"
 	cmpb	$0, 16(%rsp)
 	je	.LBB118_1
 	movzwl	17(%rsp), %eax
@@ -50801,7 +50801,7 @@
 	popq	%rbp
 	retq
 .Lfunc_end118:
-	.size	"jbig2_text::decode_by::<#412541cfc16ccc23>", .Lfunc_end118-"jbig2_text::decode_by::<#412541cfc16ccc23>"
+	.size	"jbig2_text::decoding::decode_by::<#412541cfc16ccc23>", .Lfunc_end118-"jbig2_text::decoding::decode_by::<#412541cfc16ccc23>"
 
 	.section	".text.jbig2_page::region::parsed_region::ParsedRegion::drop::<#321cb2bbcfc5bcf0>","ax",@progbits
 	.p2align	4
@@ -52002,10 +52002,10 @@
 .Lfunc_end123:
 	.size	"jbig2_page::page::calls::push_pixels::<#7e483f0e2b399f49>", .Lfunc_end123-"jbig2_page::page::calls::push_pixels::<#7e483f0e2b399f49>"
 
-	.section	".text.jbig2_rows::salvage::salvages::<#98122509696db2bb>","ax",@progbits
+	.section	".text.jbig2_rows::drawing::salvages::<#98122509696db2bb>","ax",@progbits
 	.p2align	4
-	.type	"jbig2_rows::salvage::salvages::<#98122509696db2bb>",@function
-"jbig2_rows::salvage::salvages::<#98122509696db2bb>":
+	.type	"jbig2_rows::drawing::salvages::<#98122509696db2bb>",@function
+"jbig2_rows::drawing::salvages::<#98122509696db2bb>":
 	pushq	%r15
 	pushq	%r14
 	pushq	%r13
@@ -52111,7 +52111,7 @@
 	popq	%r15
 	retq
 .Lfunc_end124:
-	.size	"jbig2_rows::salvage::salvages::<#98122509696db2bb>", .Lfunc_end124-"jbig2_rows::salvage::salvages::<#98122509696db2bb>"
+	.size	"jbig2_rows::drawing::salvages::<#98122509696db2bb>", .Lfunc_end124-"jbig2_rows::drawing::salvages::<#98122509696db2bb>"
 
 	.section	".text.std_alloc::vec::Vec::drop::<#c85aea3bf68d96cd>","ax",@progbits
 	.p2align	4
@@ -52212,7 +52212,7 @@
 	movw	$0, 4(%rsp)
 	movb	$0, 6(%rsp)
 	leaq	416(%rsp), %rdi
-	callq	"jbig2_framing::file::parse_segments_sequential::<#98122509696db2bb>"
+	callq	"jbig2_framing::segment_list::parse_segments_sequential::<#98122509696db2bb>"
 	cmpb	$0, 416(%rsp)
 	je	.LBB126_1
 	movzbl	417(%rsp), %ebp
@@ -55495,7 +55495,7 @@
 	movzbl	%cl, %ecx
 	leaq	192(%rsp), %rdi
 	movq	%r15, %rsi
-	callq	"jbig2_framing::file::parse_segments_sequential::<#98122509696db2bb>"
+	callq	"jbig2_framing::segment_list::parse_segments_sequential::<#98122509696db2bb>"
 	movq	16(%rsp), %r8
 	movzbl	192(%rsp), %eax
 	movzbl	193(%rsp), %r11d

@@ -1107,7 +1107,7 @@
 	leaq	2752(%rsp), %rdi
 	movq	%r13, %rsi
 	movq	%r12, %rdx
-	callq	"jbig2_framing::file::parse_segments_sequential::<#61d4e6a79288078e>"
+	callq	"jbig2_framing::segment_list::parse_segments_sequential::<#61d4e6a79288078e>"
 	cmpb	$0, 2752(%rsp)
 	je	.LBB0_232
 	movzbl	2753(%rsp), %ebx
@@ -7919,10 +7919,10 @@
 .Lfunc_end15:
 	.size	"std::io::stdio::StdoutWrite::write_all", .Lfunc_end15-"std::io::stdio::StdoutWrite::write_all"
 
-	.section	".text.jbig2_framing::file::parse_segments_sequential::<#61d4e6a79288078e>","ax",@progbits
+	.section	".text.jbig2_framing::segment_list::parse_segments_sequential::<#61d4e6a79288078e>","ax",@progbits
 	.p2align	4
-	.type	"jbig2_framing::file::parse_segments_sequential::<#61d4e6a79288078e>",@function
-"jbig2_framing::file::parse_segments_sequential::<#61d4e6a79288078e>":
+	.type	"jbig2_framing::segment_list::parse_segments_sequential::<#61d4e6a79288078e>",@function
+"jbig2_framing::segment_list::parse_segments_sequential::<#61d4e6a79288078e>":
 	pushq	%rbp
 	pushq	%r15
 	pushq	%r14
@@ -8469,7 +8469,7 @@
 	movq	$0, 120(%rax)
 	jmp	.LBB16_59
 .Lfunc_end16:
-	.size	"jbig2_framing::file::parse_segments_sequential::<#61d4e6a79288078e>", .Lfunc_end16-"jbig2_framing::file::parse_segments_sequential::<#61d4e6a79288078e>"
+	.size	"jbig2_framing::segment_list::parse_segments_sequential::<#61d4e6a79288078e>", .Lfunc_end16-"jbig2_framing::segment_list::parse_segments_sequential::<#61d4e6a79288078e>"
 
 	.section	".text.jbig2_framing::segment::parse_segment_header::<#33e85bb947bd81eb>","ax",@progbits
 	.p2align	4
@@ -41742,7 +41742,7 @@
 	leaq	7584(%rsp), %rdi
 	leaq	1872(%rsp), %rsi
 	movq	88(%rsp), %r8
-	callq	"jbig2_text::start_prefixed::<#33e85bb947bd81eb>"
+	callq	"jbig2_text::decoding::start_prefixed::<#33e85bb947bd81eb>"
 	cmpb	$0, 7584(%rsp)
 	je	.LBB95_305
 .LBB95_199:
@@ -43043,7 +43043,7 @@
 	movq	%rax, 336(%rsp)
 	leaq	8672(%rsp), %rdi
 	leaq	1872(%rsp), %rsi
-	callq	"jbig2_text::refining_of::<#33e85bb947bd81eb>"
+	callq	"jbig2_text::decoding::refining_of::<#33e85bb947bd81eb>"
 	cmpb	$0, 8672(%rsp)
 	je	.LBB95_402
 	movzbl	8673(%rsp), %eax
@@ -43204,7 +43204,7 @@
 	movq	%rax, 336(%rsp)
 	leaq	8672(%rsp), %rdi
 	leaq	1872(%rsp), %rsi
-	callq	"jbig2_text::refining_of::<#33e85bb947bd81eb>"
+	callq	"jbig2_text::decoding::refining_of::<#33e85bb947bd81eb>"
 	cmpb	$0, 8672(%rsp)
 	je	.LBB95_444
 	movzbl	8673(%rsp), %eax
@@ -43797,10 +43797,10 @@
 .Lfunc_end96:
 	.size	"jbig2_text::symbol_codes::codes_of::<#61d4e6a79288078e>", .Lfunc_end96-"jbig2_text::symbol_codes::codes_of::<#61d4e6a79288078e>"
 
-	.section	".text.unlikely.jbig2_text::refining_of::<#33e85bb947bd81eb>","ax",@progbits
+	.section	".text.unlikely.jbig2_text::decoding::refining_of::<#33e85bb947bd81eb>","ax",@progbits
 	.p2align	4
-	.type	"jbig2_text::refining_of::<#33e85bb947bd81eb>",@function
-"jbig2_text::refining_of::<#33e85bb947bd81eb>":
+	.type	"jbig2_text::decoding::refining_of::<#33e85bb947bd81eb>",@function
+"jbig2_text::decoding::refining_of::<#33e85bb947bd81eb>":
 	pushq	%rbp
 	pushq	%r15
 	pushq	%r14
@@ -43898,7 +43898,7 @@
 	popq	%rbp
 	retq
 .Lfunc_end97:
-	.size	"jbig2_text::refining_of::<#33e85bb947bd81eb>", .Lfunc_end97-"jbig2_text::refining_of::<#33e85bb947bd81eb>"
+	.size	"jbig2_text::decoding::refining_of::<#33e85bb947bd81eb>", .Lfunc_end97-"jbig2_text::decoding::refining_of::<#33e85bb947bd81eb>"
 
 	.section	".text.jbig2_text::whole::count_by::<#c5936e93b7f8db8d>","ax",@progbits
 	.p2align	4
@@ -44124,10 +44124,10 @@
 .Lfunc_end98:
 	.size	"jbig2_text::whole::count_by::<#c5936e93b7f8db8d>", .Lfunc_end98-"jbig2_text::whole::count_by::<#c5936e93b7f8db8d>"
 
-	.section	".text.jbig2_text::start_prefixed::<#33e85bb947bd81eb>","ax",@progbits
+	.section	".text.jbig2_text::decoding::start_prefixed::<#33e85bb947bd81eb>","ax",@progbits
 	.p2align	4
-	.type	"jbig2_text::start_prefixed::<#33e85bb947bd81eb>",@function
-"jbig2_text::start_prefixed::<#33e85bb947bd81eb>":
+	.type	"jbig2_text::decoding::start_prefixed::<#33e85bb947bd81eb>",@function
+"jbig2_text::decoding::start_prefixed::<#33e85bb947bd81eb>":
 	pushq	%rbp
 	pushq	%r15
 	pushq	%r14
@@ -44363,7 +44363,7 @@
 	popq	%rbp
 	retq
 .Lfunc_end99:
-	.size	"jbig2_text::start_prefixed::<#33e85bb947bd81eb>", .Lfunc_end99-"jbig2_text::start_prefixed::<#33e85bb947bd81eb>"
+	.size	"jbig2_text::decoding::start_prefixed::<#33e85bb947bd81eb>", .Lfunc_end99-"jbig2_text::decoding::start_prefixed::<#33e85bb947bd81eb>"
 
 	.section	".text.jbig2_text::whole::count_by::<#86103606aa0effe3>","ax",@progbits
 	.p2align	4
@@ -48798,7 +48798,7 @@
 	movq	%rbp, %rsi
 	movq	%r12, %rcx
 	movq	%rax, %r8
-	callq	"jbig2_text::start_prefixed::<#33e85bb947bd81eb>"
+	callq	"jbig2_text::decoding::start_prefixed::<#33e85bb947bd81eb>"
 	cmpb	$0, 272(%rsp)
 	je	.LBB111_16
 	movzwl	273(%rsp), %eax
@@ -49068,7 +49068,7 @@
 	movq	32(%rsp), %rcx
 	movq	%r13, %r8
 	movq	16(%rsp), %r9
-	callq	"jbig2_text::decode_by::<#86103606aa0effe3>"
+	callq	"jbig2_text::decoding::decode_by::<#86103606aa0effe3>"
 	jmp	.LBB111_17
 .LBB111_5:
 	movq	%r14, 40(%rsp)
@@ -49095,7 +49095,7 @@
 	movq	32(%rsp), %rcx
 	movq	%r13, %r8
 	movq	16(%rsp), %r9
-	callq	"jbig2_text::decode_by::<#c5936e93b7f8db8d>"
+	callq	"jbig2_text::decoding::decode_by::<#c5936e93b7f8db8d>"
 	movq	440(%rsp), %r15
 	movq	448(%rsp), %r14
 	movq	456(%rsp), %rbx
@@ -49148,10 +49148,10 @@
 	.long	.LBB111_46-.LJTI111_0
 	.long	.LBB111_48-.LJTI111_0
 
-	.section	".text.unlikely.jbig2_text::decode_by::<#c5936e93b7f8db8d>","ax",@progbits
+	.section	".text.unlikely.jbig2_text::decoding::decode_by::<#c5936e93b7f8db8d>","ax",@progbits
 	.p2align	4
-	.type	"jbig2_text::decode_by::<#c5936e93b7f8db8d>",@function
-"jbig2_text::decode_by::<#c5936e93b7f8db8d>":
+	.type	"jbig2_text::decoding::decode_by::<#c5936e93b7f8db8d>",@function
+"jbig2_text::decoding::decode_by::<#c5936e93b7f8db8d>":
 	pushq	%rbp
 	pushq	%r15
 	pushq	%r14
@@ -49174,7 +49174,7 @@
 	movaps	%xmm0, 48(%rsp)
 	leaq	16(%rsp), %rdi
 	movq	%rdx, %rsi
-	callq	"jbig2_text::refining_of::<#33e85bb947bd81eb>"
+	callq	"jbig2_text::decoding::refining_of::<#33e85bb947bd81eb>"
 	cmpb	$0, 16(%rsp)
 	je	.LBB112_1
 	movzwl	17(%rsp), %eax
@@ -49236,12 +49236,12 @@
 	popq	%rbp
 	retq
 .Lfunc_end112:
-	.size	"jbig2_text::decode_by::<#c5936e93b7f8db8d>", .Lfunc_end112-"jbig2_text::decode_by::<#c5936e93b7f8db8d>"
+	.size	"jbig2_text::decoding::decode_by::<#c5936e93b7f8db8d>", .Lfunc_end112-"jbig2_text::decoding::decode_by::<#c5936e93b7f8db8d>"
 
-	.section	".text.unlikely.jbig2_text::decode_by::<#86103606aa0effe3>","ax",@progbits
+	.section	".text.unlikely.jbig2_text::decoding::decode_by::<#86103606aa0effe3>","ax",@progbits
 	.p2align	4
-	.type	"jbig2_text::decode_by::<#86103606aa0effe3>",@function
-"jbig2_text::decode_by::<#86103606aa0effe3>":
+	.type	"jbig2_text::decoding::decode_by::<#86103606aa0effe3>",@function
+"jbig2_text::decoding::decode_by::<#86103606aa0effe3>":
 	pushq	%rbp
 	pushq	%r15
 	pushq	%r14
@@ -49264,7 +49264,7 @@
 	movaps	%xmm0, 48(%rsp)
 	leaq	16(%rsp), %rdi
 	movq	%rdx, %rsi
-	callq	"jbig2_text::refining_of::<#33e85bb947bd81eb>"
+	callq	"jbig2_text::decoding::refining_of::<#33e85bb947bd81eb>"
 	cmpb	$0, 16(%rsp)
 	je	.LBB113_1
 	movzwl	17(%rsp), %eax
@@ -49326,7 +49326,7 @@
 	popq	%rbp
 	retq
 .Lfunc_end113:
-	.size	"jbig2_text::decode_by::<#86103606aa0effe3>", .Lfunc_end113-"jbig2_text::decode_by::<#86103606aa0effe3>"
+	.size	"jbig2_text::decoding::decode_by::<#86103606aa0effe3>", .Lfunc_end113-"jbig2_text::decoding::decode_by::<#86103606aa0effe3>"
 
 	.section	".text.jbig2_page::region::parsed_region::ParsedRegion::drop::<#33e85bb947bd81eb>","ax",@progbits
 	.p2align	4
@@ -51346,7 +51346,7 @@
 	movzbl	%dil, %ecx
 	leaq	128(%rsp), %rdi
 	movq	%r14, %rsi
-	callq	"jbig2_framing::file::parse_segments_sequential::<#61d4e6a79288078e>"
+	callq	"jbig2_framing::segment_list::parse_segments_sequential::<#61d4e6a79288078e>"
 	xorl	%r11d, %r11d
 	movzbl	128(%rsp), %eax
 	movzbl	129(%rsp), %ecx

@@ -2714,7 +2714,7 @@
 	movzbl	%r12b, %r15d
 	leaq	288(%rsp), %rdi
 	movl	%r15d, %r8d
-	callq	"jbig2_framing::file::parse_segments_sequential::<#292692cd0634e4a9>"
+	callq	"jbig2_framing::segment_list::parse_segments_sequential::<#292692cd0634e4a9>"
 	cmpb	$0, 288(%rsp)
 	je	.LBB12_1
 	movzwl	289(%rsp), %eax
@@ -2977,10 +2977,10 @@
 .Lfunc_end12:
 	.size	"jbig2_page::page::PageContent::read::<#292692cd0634e4a9>", .Lfunc_end12-"jbig2_page::page::PageContent::read::<#292692cd0634e4a9>"
 
-	.section	".text.jbig2_framing::file::parse_segments_sequential::<#292692cd0634e4a9>","ax",@progbits
+	.section	".text.jbig2_framing::segment_list::parse_segments_sequential::<#292692cd0634e4a9>","ax",@progbits
 	.p2align	4
-	.type	"jbig2_framing::file::parse_segments_sequential::<#292692cd0634e4a9>",@function
-"jbig2_framing::file::parse_segments_sequential::<#292692cd0634e4a9>":
+	.type	"jbig2_framing::segment_list::parse_segments_sequential::<#292692cd0634e4a9>",@function
+"jbig2_framing::segment_list::parse_segments_sequential::<#292692cd0634e4a9>":
 	pushq	%rbp
 	pushq	%r15
 	pushq	%r14
@@ -3590,7 +3590,7 @@
 	movq	$0, 136(%rax)
 	jmp	.LBB13_70
 .Lfunc_end13:
-	.size	"jbig2_framing::file::parse_segments_sequential::<#292692cd0634e4a9>", .Lfunc_end13-"jbig2_framing::file::parse_segments_sequential::<#292692cd0634e4a9>"
+	.size	"jbig2_framing::segment_list::parse_segments_sequential::<#292692cd0634e4a9>", .Lfunc_end13-"jbig2_framing::segment_list::parse_segments_sequential::<#292692cd0634e4a9>"
 
 	.section	".text.jbig2_framing::segment::parse_segment_header::<#7cb7c16381135986>","ax",@progbits
 	.p2align	4
@@ -12601,7 +12601,7 @@
 	movq	%r13, %rsi
 	movq	%r8, %rbx
 	movl	168(%rsp), %r8d
-	callq	"jbig2_framing::file::parse_segments_sequential::<#292692cd0634e4a9>"
+	callq	"jbig2_framing::segment_list::parse_segments_sequential::<#292692cd0634e4a9>"
 	movq	%rbx, %r8
 	movzbl	208(%rsp), %eax
 	movzbl	209(%rsp), %ecx
@@ -44368,7 +44368,7 @@
 	leaq	11056(%rsp), %rdi
 	leaq	1840(%rsp), %rsi
 	movq	80(%rsp), %r8
-	callq	"jbig2_text::start_prefixed::<#7cb7c16381135986>"
+	callq	"jbig2_text::decoding::start_prefixed::<#7cb7c16381135986>"
 	cmpb	$0, 11056(%rsp)
 	je	.LBB103_319
 .LBB103_186:
@@ -45762,7 +45762,7 @@
 	leaq	8848(%rsp), %rdi
 	leaq	1840(%rsp), %rdx
 	movq	%r14, %rsi
-	callq	"jbig2_text::refining_of::<#7cb7c16381135986>"
+	callq	"jbig2_text::decoding::refining_of::<#7cb7c16381135986>"
 	cmpb	$0, 8848(%rsp)
 	je	.LBB103_397
 	movzbl	8849(%rsp), %eax
@@ -45899,7 +45899,7 @@
 	leaq	8848(%rsp), %rdi
 	leaq	1840(%rsp), %rdx
 	movq	%r14, %rsi
-	callq	"jbig2_text::refining_of::<#7cb7c16381135986>"
+	callq	"jbig2_text::decoding::refining_of::<#7cb7c16381135986>"
 	cmpb	$0, 8848(%rsp)
 	je	.LBB103_402
 	movzbl	8849(%rsp), %eax
@@ -46223,10 +46223,10 @@
 .Lfunc_end104:
 	.size	"jbig2_text::symbol_codes::codes_of::<#292692cd0634e4a9>", .Lfunc_end104-"jbig2_text::symbol_codes::codes_of::<#292692cd0634e4a9>"
 
-	.section	".text.unlikely.jbig2_text::refining_of::<#7cb7c16381135986>","ax",@progbits
+	.section	".text.unlikely.jbig2_text::decoding::refining_of::<#7cb7c16381135986>","ax",@progbits
 	.p2align	4
-	.type	"jbig2_text::refining_of::<#7cb7c16381135986>",@function
-"jbig2_text::refining_of::<#7cb7c16381135986>":
+	.type	"jbig2_text::decoding::refining_of::<#7cb7c16381135986>",@function
+"jbig2_text::decoding::refining_of::<#7cb7c16381135986>":
 	pushq	%rbp
 	pushq	%r15
 	pushq	%r14
@@ -46328,7 +46328,7 @@
 	popq	%rbp
 	retq
 .Lfunc_end105:
-	.size	"jbig2_text::refining_of::<#7cb7c16381135986>", .Lfunc_end105-"jbig2_text::refining_of::<#7cb7c16381135986>"
+	.size	"jbig2_text::decoding::refining_of::<#7cb7c16381135986>", .Lfunc_end105-"jbig2_text::decoding::refining_of::<#7cb7c16381135986>"
 
 	.section	".text.jbig2_text::whole::count_by::<#ed48865aee30d4fd>","ax",@progbits
 	.p2align	4
@@ -46554,10 +46554,10 @@
 .Lfunc_end106:
 	.size	"jbig2_text::whole::count_by::<#ed48865aee30d4fd>", .Lfunc_end106-"jbig2_text::whole::count_by::<#ed48865aee30d4fd>"
 
-	.section	".text.jbig2_text::start_prefixed::<#7cb7c16381135986>","ax",@progbits
+	.section	".text.jbig2_text::decoding::start_prefixed::<#7cb7c16381135986>","ax",@progbits
 	.p2align	4
-	.type	"jbig2_text::start_prefixed::<#7cb7c16381135986>",@function
-"jbig2_text::start_prefixed::<#7cb7c16381135986>":
+	.type	"jbig2_text::decoding::start_prefixed::<#7cb7c16381135986>",@function
+"jbig2_text::decoding::start_prefixed::<#7cb7c16381135986>":
 	pushq	%rbp
 	pushq	%r15
 	pushq	%r14
@@ -46793,7 +46793,7 @@
 	popq	%rbp
 	retq
 .Lfunc_end107:
-	.size	"jbig2_text::start_prefixed::<#7cb7c16381135986>", .Lfunc_end107-"jbig2_text::start_prefixed::<#7cb7c16381135986>"
+	.size	"jbig2_text::decoding::start_prefixed::<#7cb7c16381135986>", .Lfunc_end107-"jbig2_text::decoding::start_prefixed::<#7cb7c16381135986>"
 
 	.section	".text.jbig2_text::whole::count_by::<#214decd045c1e4b5>","ax",@progbits
 	.p2align	4
@@ -51437,7 +51437,7 @@
 	movq	%r10, %rsi
 	movq	%r12, %rcx
 	movq	%r10, %r12
-	callq	"jbig2_text::start_prefixed::<#7cb7c16381135986>"
+	callq	"jbig2_text::decoding::start_prefixed::<#7cb7c16381135986>"
 	cmpb	$0, 304(%rsp)
 	je	.LBB119_16
 	movzwl	305(%rsp), %eax
@@ -51721,7 +51721,7 @@
 	movq	%r12, %rcx
 	movq	40(%rsp), %r8
 	movq	%r13, %r9
-	callq	"jbig2_text::decode_by::<#214decd045c1e4b5>"
+	callq	"jbig2_text::decoding::decode_by::<#214decd045c1e4b5>"
 	jmp	.LBB119_17
 .LBB119_5:
 	movq	%r14, 48(%rsp)
@@ -51752,7 +51752,7 @@
 	movq	%rbp, %rcx
 	movq	40(%rsp), %r8
 	movq	%r13, %r9
-	callq	"jbig2_text::decode_by::<#ed48865aee30d4fd>"
+	callq	"jbig2_text::decoding::decode_by::<#ed48865aee30d4fd>"
 	movq	472(%rsp), %r15
 	movq	480(%rsp), %rbx
 	movq	488(%rsp), %r12
@@ -51813,10 +51813,10 @@
 	.long	.LBB119_46-.LJTI119_0
 	.long	.LBB119_48-.LJTI119_0
 
-	.section	".text.unlikely.jbig2_text::decode_by::<#ed48865aee30d4fd>","ax",@progbits
+	.section	".text.unlikely.jbig2_text::decoding::decode_by::<#ed48865aee30d4fd>","ax",@progbits
 	.p2align	4
-	.type	"jbig2_text::decode_by::<#ed48865aee30d4fd>",@function
-"jbig2_text::decode_by::<#ed48865aee30d4fd>":
+	.type	"jbig2_text::decoding::decode_by::<#ed48865aee30d4fd>",@function
+"jbig2_text::decoding::decode_by::<#ed48865aee30d4fd>":
 	pushq	%r15
 	pushq	%r14
 	pushq	%r13
@@ -51838,7 +51838,7 @@
 	movq	$0, 64(%rsp)
 	leaq	16(%rsp), %rdi
 	movq	%rcx, %rdx
-	callq	"jbig2_text::refining_of::<#7cb7c16381135986>"
+	callq	"jbig2_text::decoding::refining_of::<#7cb7c16381135986>"
 	cmpb	$0, 16(%rsp)
 	je	.LBB120_1
 	movzwl	17(%rsp), %eax
@@ -51901,12 +51901,12 @@
 	popq	%r15
 	retq
 .Lfunc_end120:
-	.size	"jbig2_text::decode_by::<#ed48865aee30d4fd>", .Lfunc_end120-"jbig2_text::decode_by::<#ed48865aee30d4fd>"
+	.size	"jbig2_text::decoding::decode_by::<#ed48865aee30d4fd>", .Lfunc_end120-"jbig2_text::decoding::decode_by::<#ed48865aee30d4fd>"
 
-	.section	".text.unlikely.jbig2_text::decode_by::<#214decd045c1e4b5>","ax",@progbits
+	.section	".text.unlikely.jbig2_text::decoding::decode_by::<#214decd045c1e4b5>","ax",@progbits
 	.p2align	4
-	.type	"jbig2_text::decode_by::<#214decd045c1e4b5>",@function
-"jbig2_text::decode_by::<#214decd045c1e4b5>":
+	.type	"jbig2_text::decoding::decode_by::<#214decd045c1e4b5>",@function
+"jbig2_text::decoding::decode_by::<#214decd045c1e4b5>":
 	pushq	%r15
 	pushq	%r14
 	pushq	%r13
@@ -51928,7 +51928,7 @@
 	movq	$0, 64(%rsp)
 	leaq	16(%rsp), %rdi
 	movq	%rcx, %rdx
-	callq	"jbig2_text::refining_of::<#7cb7c16381135986>"
+	callq	"jbig2_text::decoding::refining_of::<#7cb7c16381135986>"
 	cmpb	$0, 16(%rsp)
 	je	.LBB121_1
 	movzwl	17(%rsp), %eax
@@ -51991,7 +51991,7 @@
 	popq	%r15
 	retq
 .Lfunc_end121:
-	.size	"jbig2_text::decode_by::<#214decd045c1e4b5>", .Lfunc_end121-"jbig2_text::decode_by::<#214decd045c1e4b5>"
+	.size	"jbig2_text::decoding::decode_by::<#214decd045c1e4b5>", .Lfunc_end121-"jbig2_text::decoding::decode_by::<#214decd045c1e4b5>"
 
 	.section	".text.jbig2_page::region::parsed_region::ParsedRegion::drop::<#7cb7c16381135986>","ax",@progbits
 	.p2align	4
@@ -53504,7 +53504,7 @@
 	movb	$0, 22(%rsp)
 	movw	$0, 20(%rsp)
 	leaq	304(%rsp), %rdi
-	callq	"jbig2_framing::file::parse_segments_sequential::<#292692cd0634e4a9>"
+	callq	"jbig2_framing::segment_list::parse_segments_sequential::<#292692cd0634e4a9>"
 	cmpb	$0, 304(%rsp)
 	je	.LBB126_1
 	movzbl	305(%rsp), %ebp
