@@ -1,6 +1,6 @@
 //! The cases of files, of globals, and of decoders over a reader.
 
-use crate::case::{Answer, Modes};
+use crate::answer::{Answer, Modes};
 use crate::errors::TOO_EARLY;
 use crate::spelling::spelled;
 use hayro_jbig2::{DecodeError, DecodeSettings, DecoderContext, File, Globals, Jbig2Decoder, Jbig2Error};

@@ -2,6 +2,7 @@
 //! the library's own crate of rows, which are Rust as well: `R2`, for instance, is
 //! `crates/jbig2_rows/src/rows/regions.rt`.
 
+mod answer;
 mod case;
 mod file_case;
 mod salvage;

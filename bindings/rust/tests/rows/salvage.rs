@@ -1,6 +1,6 @@
 //! The cases of salvage.
 
-use crate::case::Answer;
+use crate::answer::Answer;
 use crate::file_case::{FilePage, check_pages_of};
 use crate::spelling::spelled;
 use hayro_jbig2::{DecodeError, DecoderContext, File, Globals, LeftOut, Page, PassedOver, PassedSegment};

@@ -1,10 +1,10 @@
 //! The rows 1 to 17 that are pages, files or globals. Their source also names parts of the library that this crate has
 //! not, so those that stand in it alone are here once more.
 
+use crate::answer::Answer::{Calls, Refused, Undrawn};
+use crate::answer::Modes::Both;
 use crate::call::{BLACK, Call, DOT, LINE, PAPER, WHITE, WHITE_TWICE};
-use crate::case::Answer::{Calls, Refused, Undrawn};
 use crate::case::Case::{ByMode, Page, Size};
-use crate::case::Modes::Both;
 use crate::case::{Case, Row};
 use crate::errors::{INVALID_MMR, TOO_EARLY, TOO_LARGE};
 use crate::salvage::{NOTHING, Report, SalvageCase};
