@@ -24,6 +24,7 @@ class DecodersTest(unittest.TestCase):
     def test_names(self):
         for decoder in DECODERS:
             self.assertIs(decoder_of([decoder.name]), decoder)
+        self.assertEqual(decoder_of(["gs"]).name, "gs")
         with self.assertRaises(ValueError):
             decoder_of(["unheard-of"])
         self.assertEqual({decoder.name for decoder in DECODERS if not decoder.package}, {"jbig2-decode", "drop-in"})
